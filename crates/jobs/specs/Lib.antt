@@ -1,0 +1,7 @@
+-- What 01 says of the writer: the definitions alone. Text in quotation marks is 01's.
+-- Rounds, ballots, rows, columns, branches and draws are counted from 0; processes from 1.
+pub mod Job
+pub mod Prover
+pub mod Board
+pub mod Write
+pub mod Replies

@@ -1,0 +1,61 @@
+-- "Where a job stops": the writer's tests, its outcome, and what the output then holds.
+use Prim.Native.Nat.{ℕ, zero, suc, _*_}
+use mathlib.Core.Bool.{Bool, cond, _&&_}
+use mathlib.Core.List.{List, [], _∷_, _++_}
+use lib.Dec.{leb, ltb, eqb}
+use lib.ListN.{length, drop}
+use Rattle.numbers.specs.Below.{allBelow}
+use Rattle.rules.specs.Group.{sizes, orders, generators}
+use Rattle.rules.specs.Count.{isRanking}
+use Rattle.rules.specs.Check.{firstFault, _orElse_}
+use Rattle.jobs.specs.Job.{Job, groupOf, rankingOf, draw, needed, boardLength, plainResult}
+use Rattle.jobs.specs.Board.{board}
+
+-- "5: a label not of 32 bytes, or a rule on g0 or g1 broken"
+abbrev pub labelGood : (hash : List ℕ → List ℕ) → Job → Bool
+labelGood hash job = eqb (length (job .label)) 32 && generators hash (job .label) (job .counter) (groupOf hash job)
+
+-- "13: list not K × n long, or a ranking lacks a process"
+abbrev pub rankingsGood : Job → Bool
+rankingsGood job = eqb (length (job .rankings)) (job .K * job .n) && allBelow (job .K) (λ k. isRanking (job .n) (rankingOf job k))
+
+-- "14: fewer than needed, or a needed one outside 1 to q−1"
+abbrev pub drawsGood : Job → Bool
+drawsGood job = leb (needed job) (length (job .draws)) && allBelow (needed job) (λ d. leb 1 (draw job d) && ltb (draw job d) (job .q))
+
+-- "It checks n and K (3), group (4), label and generators (5 ..), rankings (13 ..), draws (14 ..), output (15: shorter than the board)."
+-- 0 where no test fails; room: the output's length
+unfoldable pub jobFault : (hash : List ℕ → List ℕ) → Job → (room : ℕ) → ℕ
+jobFault hash job room =
+    firstFault
+    ((sizes (job .n) (job .K) orElse 3)
+    ∷ (orders (job .n) (job .K) (job .p) (job .q) orElse 4)
+    ∷ (labelGood hash job orElse 5)
+    ∷ (rankingsGood job orElse 13)
+    ∷ (drawsGood job orElse 14)
+    ∷ (leb (boardLength job) room orElse 15)
+    ∷ [])
+
+-- the first of the first k rankings, from 1, that lacks a process; 0 where none does
+unfoldable pub firstBad : Job → (k : ℕ) → ℕ
+firstBad job zero = 0
+firstBad job (suc k) = cond (eqb (firstBad job k) 0) (cond (isRanking (job .n) (rankingOf job k)) 0 (suc k)) (firstBad job k)
+
+-- "With 13 goes the first bad ranking from 1, or 0 for a wrong length; with the others 0."
+unfoldable pub which : Job → (number : ℕ) → ℕ
+which job number = cond (eqb number 13 && eqb (length (job .rankings)) (job .K * job .n)) (firstBad job (job .K)) 0
+
+-- "A written one gives the board's length and result", a refused one its number and which
+pub data Outcome : Type 0 where
+  boardWritten : (length rounds : ℕ) (order : List ℕ) (winner : ℕ) → Outcome
+  jobRefused : (number which : ℕ) → Outcome
+
+unfoldable pub writeOutcome : (hash : List ℕ → List ℕ) → Job → (room : ℕ) → Outcome
+writeOutcome hash job room =
+    cond (eqb (jobFault hash job room) 0)
+    (boardWritten (boardLength job) (plainResult job .rounds) (plainResult job .order) (plainResult job .winner))
+    (jobRefused (jobFault hash job room) (which job (jobFault hash job room)))
+
+-- "A refused job changes nothing in the output." "bytes past it stay"
+unfoldable pub writeOutput : (hash : List ℕ → List ℕ) → Job → (out : List ℕ) → List ℕ
+writeOutput hash job out = cond (eqb (jobFault hash job (length out)) 0) (board hash job ++ drop (boardLength job) out) out

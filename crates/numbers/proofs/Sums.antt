@@ -1,0 +1,101 @@
+-- Laws of sums below a bound.
+use Prim.Native.Nat.{ℕ, zero, suc, _+_, _*_, _%_, _≤_, _<_}
+use mathlib.Core.Path.{_≡_, refl, sym, ap, ap₂, _∙_}
+use mathlib.Core.Bool.{cond}
+use mathlib.Core.Logic.{⊎-elim}
+use native.Mathlib.Nat.{mul-zero, zero-mod, eq-or-lt-of-le, le-of-suc-le-suc, not-suc-le-zero}
+use native.Mathlib.Omega.{arith}
+use lib.Dec.{eqb}
+use borrow.Author.Tests.{eq-eqb, ne-eqb}
+use Rattle.numbers.specs.Below.{sumBelow}
+use Rattle.numbers.proofs.Congruence.{Same, same-refl, same-of, add-same}
+
+pub sum-last : (m : ℕ) (f : ℕ → ℕ) → sumBelow (suc m) f ≡ sumBelow m f + f m
+unfolding sumBelow
+sum-last m f = refl
+
+pub sum-first : (m : ℕ) (f : ℕ → ℕ) → sumBelow (suc m) f ≡ f 0 + sumBelow m (λ k. f (suc k))
+unfolding sumBelow
+sum-first zero f = omega arith
+sum-first (suc m) f = let h = sum-first m f in omega arith
+
+pub sum-same : (m : ℕ) (f g : ℕ → ℕ) → ((k : ℕ) → k < m → f k ≡ g k) → sumBelow m f ≡ sumBelow m g
+unfolding sumBelow
+sum-same zero f g h = refl
+sum-same (suc m) f g h = ap₂ _+_ (sum-same m f g (λ k l. h k (omega arith))) (h m (omega arith))
+
+pub sum-add : (m : ℕ) (f g : ℕ → ℕ) → sumBelow m (λ k. f k + g k) ≡ sumBelow m f + sumBelow m g
+unfolding sumBelow
+sum-add zero f g = refl
+sum-add (suc m) f g = let h = sum-add m f g in omega arith
+
+pub sum-times : (m c : ℕ) (f : ℕ → ℕ) → sumBelow m (λ k. f k * c) ≡ sumBelow m f * c
+unfolding sumBelow
+sum-times zero c f = omega arith
+sum-times (suc m) c f = let h = sum-times m c f in omega arith
+
+pub sum-bound : (m c : ℕ) (f : ℕ → ℕ) → ((k : ℕ) → k < m → f k ≤ c) → sumBelow m f ≤ m * c
+unfolding sumBelow
+sum-bound zero c f h = omega arith
+sum-bound (suc m) c f h = omega (arith, sum-bound m c f (λ k l. h k (omega arith)), h m (omega arith))
+
+pub sum-constant : (m c : ℕ) → sumBelow m (λ k. c) ≡ m * c
+unfolding sumBelow
+sum-constant zero c = omega arith
+sum-constant (suc m) c = let h = sum-constant m c in omega arith
+
+pub sum-zero : (n : ℕ) → sumBelow n (λ _. 0) ≡ 0
+sum-zero n = sum-constant n 0 ∙ mul-zero n
+
+pub sum-swap : (n m : ℕ) (f : ℕ → ℕ → ℕ) → sumBelow n (λ i. sumBelow m (f i)) ≡ sumBelow m (λ k. sumBelow n (λ i. f i k))
+unfolding sumBelow
+sum-swap zero m f = omega (arith, sum-constant m 0)
+sum-swap (suc n) m f = ap (λ (t : ℕ). t + sumBelow m (f n)) (sum-swap n m f) ∙ sym (sum-add m (λ k. sumBelow n (λ i. f i k)) (f n))
+
+-- terms that leave the same rests add up to the same rest
+pub sum-rests : {q : ℕ} (n : ℕ) (f g : ℕ → ℕ) → ((i : ℕ) → i < n → Same q (f i) (g i)) → Same q (sumBelow n f) (sumBelow n g)
+unfolding sumBelow
+sum-rests zero f g h = same-refl 0
+sum-rests (suc n) f g h = add-same (sum-rests n f g (λ i l. h i (omega arith))) (h n (omega arith))
+
+-- multiples of p add up to a multiple
+pub sum-multiples : (p m : ℕ) (f : ℕ → ℕ) → ((k : ℕ) → k < m → f k % p ≡ 0) → sumBelow m f % p ≡ 0
+sum-multiples p m f h =
+    sum-rests m f (λ _. 0) (λ k l. same-of (h k l)) .same ∙ ap (λ (t : ℕ). t % p) (sum-zero m) ∙ zero-mod p
+
+-- the term at t taken out
+pub sum-one-out : (n t v : ℕ) (f : ℕ → ℕ) → t < n → sumBelow n (λ i. cond (eqb i t) v (f i)) ≡ v + sumBelow n (λ i. cond (eqb i t) 0 (f i))
+unfolding sumBelow
+sum-one-out zero t v f l = absurd (not-suc-le-zero l)
+sum-one-out (suc n) t v f l =
+    ⊎-elim
+    (λ (e : t ≡ n).
+    let d : (w i : ℕ) → i < n → cond (eqb i t) w (f i) ≡ f i = λ w i h. rw (ne-eqb i t (λ e'. omega arith)) in
+    rw (sum-same n (λ i. cond (eqb i t) v (f i)) f (d v), sum-same n (λ i. cond (eqb i t) 0 (f i)) f (d 0), eq-eqb n t (sym e)) (omega arith))
+    (λ (h : t < n). rw (sum-one-out n t v f h, ne-eqb n t (λ e'. omega arith)) (omega arith))
+    (eq-or-lt-of-le (le-of-suc-le-suc l))
+
+-- sums of n terms that come to n
+pub sum-over : (n : ℕ) (f : ℕ → ℕ) → ((i : ℕ) → i < n → 1 ≤ f i) → n ≤ sumBelow n f
+unfolding sumBelow
+sum-over zero f h = omega arith
+sum-over (suc n) f h = omega (arith, sum-over n f (λ i l. h i (omega arith)), h n (omega arith))
+
+pub all-one-over : (n : ℕ) (f : ℕ → ℕ) → ((i : ℕ) → i < n → 1 ≤ f i) → sumBelow n f ≤ n → (i : ℕ) → i < n → f i ≡ 1
+unfolding sumBelow
+all-one-over zero f h b i l = absurd (not-suc-le-zero l)
+all-one-over (suc n) f h b i l =
+    let low = sum-over n f (λ i l. h i (omega arith)) in
+    let last = h n (omega arith) in
+    ⊎-elim (λ (e : i ≡ n). rw e (omega arith)) (λ (c : i < n). all-one-over n f (λ i l. h i (omega arith)) (omega arith) i c) (eq-or-lt-of-le (le-of-suc-le-suc l))
+
+pub sum-under : (n : ℕ) (f : ℕ → ℕ) → ((i : ℕ) → i < n → f i ≤ 1) → sumBelow n f ≤ n
+sum-under n f h = omega (arith, sum-bound n 1 f h)
+
+pub all-one-under : (n : ℕ) (f : ℕ → ℕ) → ((i : ℕ) → i < n → f i ≤ 1) → n ≤ sumBelow n f → (i : ℕ) → i < n → f i ≡ 1
+unfolding sumBelow
+all-one-under zero f h b i l = absurd (not-suc-le-zero l)
+all-one-under (suc n) f h b i l =
+    let high = sum-under n f (λ i l. h i (omega arith)) in
+    let last = h n (omega arith) in
+    ⊎-elim (λ (e : i ≡ n). rw e (omega arith)) (λ (c : i < n). all-one-under n f (λ i l. h i (omega arith)) (omega arith) i c) (eq-or-lt-of-le (le-of-suc-le-suc l))

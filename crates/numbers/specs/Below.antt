@@ -1,0 +1,26 @@
+-- Sums, products, tests and joined lists over the numbers below a bound.
+use Prim.Native.Nat.{ℕ, zero, suc, _+_, _*_}
+use mathlib.Core.List.{List, [], _++_}
+use mathlib.Core.Bool.{Bool, true, false, _&&_, _||_}
+
+-- every k below the bound passes the test
+unfoldable pub allBelow : ℕ → (ℕ → Bool) → Bool
+allBelow zero f = true
+allBelow (suc k) f = allBelow k f && f k
+
+unfoldable pub anyBelow : ℕ → (ℕ → Bool) → Bool
+anyBelow zero f = false
+anyBelow (suc k) f = anyBelow k f || f k
+
+unfoldable pub sumBelow : ℕ → (ℕ → ℕ) → ℕ
+sumBelow zero f = 0
+sumBelow (suc k) f = sumBelow k f + f k
+
+unfoldable pub prodBelow : ℕ → (ℕ → ℕ) → ℕ
+prodBelow zero f = 1
+prodBelow (suc k) f = prodBelow k f * f k
+
+-- f 0, f 1, .. one after another
+unfoldable pub blocks : ℕ → (ℕ → List ℕ) → List ℕ
+blocks zero f = []
+blocks (suc k) f = blocks k f ++ f k

@@ -1,0 +1,1 @@
+// Numbers: theory only. The definitions stand in specs/, the laws in proofs/.

@@ -1,0 +1,44 @@
+-- The number and the values of each case of the code's answers.
+use Prim.Native.Nat.{ℕ, _-_}
+use mathlib.Core.List.{List, _++_}
+use lib.ListN.{length, take, replicate}
+use Rattle.rules.specs.Check.{Verdict, accepted, refused}
+use Rattle.rules.specs.declared.Refusal.{Refusal}
+use Rattle.rules.specs.declared.Refusal.the-variants as R
+use Rattle.rules.specs.declared.Answer.{Answer}
+use Rattle.rules.specs.declared.Answer.the-variants as A
+use Rattle.rules.specs.declared.Checked.{Checked}
+
+abbrev pub refusalNumber : Refusal → ℕ
+refusalNumber R.Length = 1
+refusalNumber R.Mark = 2
+refusalNumber R.Sizes = 3
+refusalNumber R.Orders = 4
+refusalNumber R.Generators = 5
+refusalNumber R.Number = 6
+refusalNumber R.Field = 7
+refusalNumber R.Proof = 8
+refusalNumber R.Count = 9
+refusalNumber R.Tally = 10
+refusalNumber R.Out = 11
+refusalNumber R.Remain = 12
+refusalNumber R.Rankings = 13
+refusalNumber R.Draws = 14
+refusalNumber R.Output = 15
+
+-- the checker's answer; of the array of 8 the first rounds - 1 are the order
+abbrev pub answerOf : Answer → (order : List ℕ) → Verdict
+answerOf (A.Accepted rounds winner) order = accepted rounds (take (rounds - 1) order) winner
+answerOf (A.Refused refusal place) order = refused (refusalNumber refusal) place
+
+abbrev pub verdictOf : Checked → Verdict
+verdictOf r = answerOf (r .answer) (r .order)
+
+-- what the array of 8 holds: the order of going out, then zeros
+unfoldable pub padded : (order : List ℕ) → List ℕ
+padded order = order ++ replicate (8 - length order) 0
+
+-- zeros alone where the board is refused
+abbrev pub orderOf : Verdict → List ℕ
+orderOf (accepted rounds order winner) = padded order
+orderOf (refused number place) = replicate 8 0

@@ -1,0 +1,11 @@
+-- What 01 says of a board, its checker and the count: the definitions alone. Text in quotation marks is 01's.
+-- Rounds, ballots, rows, columns and branches are counted from 0; processes from 1.
+pub mod Bytes
+pub mod Group
+pub mod Records
+pub mod Proofs
+pub mod Claims
+pub mod Count
+pub mod Check
+pub mod Answers
+pub mod Openings

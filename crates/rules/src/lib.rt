@@ -1,0 +1,46 @@
+// The checker's answer. The rules themselves are definitions, in specs/; specs/Answers.antt gives the number and the values of each case.
+
+// Why a board or a job is refused.
+pub enum Refusal {
+    // 1: bytes left are fewer than the record's length.
+    Length,
+    // 2: the mark differs from the one due.
+    Mark,
+    // 3: n or K is out of range.
+    Sizes,
+    // 4: a rule on p and q is broken.
+    Orders,
+    // 5: a rule on g0 or g1 is broken, or the label's length.
+    Generators,
+    // 6: the number or the round is not the one due.
+    Number,
+    // 7: a field is no group element, or not below q.
+    Field,
+    // 8: a proof fails.
+    Proof,
+    // 9: a count is above K.
+    Count,
+    // 10: a tally equation fails.
+    Tally,
+    // 11: out is not the one due.
+    Out,
+    // 12: bytes remain.
+    Remain,
+    // 13: the rankings' length is wrong, or a ranking lacks a process.
+    Rankings,
+    // 14: draws are too few, or one is outside 1 to q - 1.
+    Draws,
+    // 15: the output is shorter than the board.
+    Output,
+}
+
+pub enum Answer {
+    Accepted { rounds: usize, winner: usize },
+    Refused { refusal: Refusal, record: usize },
+}
+
+// The answer, and beside it the order of going out with zeros up to 8.
+pub struct Checked {
+    pub answer: Answer,
+    pub order: [u8; 8],
+}

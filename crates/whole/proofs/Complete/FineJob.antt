@@ -1,0 +1,85 @@
+-- What a valid job has, and which jobs are valid.
+use Prim.Native.Nat.{ℕ, _*_, _-_, _%_, _≤_, _<_}
+use native.Mathlib.Nat.{mod-eq-of-lt}
+use native.Mathlib.Omega.{arith}
+use mathlib.Core.Path.{_≡_}
+use mathlib.Core.Bool.{true, _&&_, and-eq-true-iff}
+use mathlib.Core.List.{List}
+use lib.Dec.{leb, ltb, eqb}
+use lib.ListN.{length}
+use borrow.Author.Tests.{ltb-true, leb-true, le-leb, eqb-true}
+use Rattle.whole.specs.ThirdDemand.{Valid}
+use Rattle.jobs.specs.Job.{boardLength, Job, groupOf, rankingOf, needed, draw}
+use Rattle.rules.specs.Check.{firstFault}
+use Rattle.numbers.proofs.Tests.{all-at}
+use Rattle.rules.specs.Group.{orders, generators}
+use Rattle.group.specs.Elements.{isElement}
+use Rattle.whole.proofs.Orders.{orders-of-test, generators-of-test}
+use Rattle.whole.proofs.Elements.{Good}
+use Rattle.whole.proofs.Faults.{first-holds}
+use Rattle.rules.specs.Count.{isRanking}
+use Rattle.jobs.specs.Write.{jobFault}
+
+pub record Fine (hash : List ℕ → List ℕ) (job : Job) : Type 0 where
+  pub n-low : 2 ≤ job .n
+  pub n-high : job .n ≤ 8
+  pub K-low : 1 ≤ job .K
+  pub K-high : job .K ≤ 1000
+  pub ordered : orders (job .n) (job .K) (job .p) (job .q) ≡ true
+  pub labelled : length (job .label) ≡ 32
+  pub generated : generators hash (job .label) (job .counter) (groupOf hash job) ≡ true
+  pub ranked : (k : ℕ) → k < job .K → isRanking (job .n) (rankingOf job k) ≡ true
+  pub drawn : (d : ℕ) → d < needed job → (1 ≤ draw job d) × (draw job d < job .q)
+
+pub fine : (hash : List ℕ → List ℕ) (job : Job) → Valid hash job → Fine hash job
+fine hash job v =
+    let a = simp and-eq-true-iff at (v .sized) in
+    let c = and-eq-true-iff _ _ .0 (v .labelled) in
+    let d = and-eq-true-iff (eqb (length (job .rankings)) (job .K * job .n)) _ .0 (v .ranked) in
+    let e = and-eq-true-iff (leb (needed job) (length (job .draws))) _ .0 (v .drawn) in
+    record {
+      n-low = leb-true 2 (job .n) (a .0 .0 .0);
+      n-high = leb-true (job .n) 8 (a .0 .0 .1);
+      K-low = leb-true 1 (job .K) (a .0 .1);
+      K-high = leb-true (job .K) 1000 (a .1);
+      ordered = v .ordered;
+      labelled = eqb-true (length (job .label)) 32 (c .0);
+      generated = c .1;
+      ranked = all-at (job .K) _ (d .1);
+      drawn = λ i l.
+          let w = and-eq-true-iff _ _ .0 (all-at (needed job) (λ i. leb 1 (draw job i) && ltb (draw job i) (job .q)) (e .1) i l) in
+          (leb-true 1 _ (w .0), ltb-true _ _ (w .1));
+    }
+
+-- a job with no refusal is valid, and its board fits
+pub valid : (hash : List ℕ → List ℕ) (job : Job) (room : ℕ) → jobFault hash job room ≡ 0 → Valid hash job × (boardLength job ≤ room)
+unfolding jobFault
+valid hash job room h =
+    let a = first-holds _ _ (omega arith) h in
+    let b = first-holds _ _ (omega arith) (a .1) in
+    let c = first-holds _ _ (omega arith) (b .1) in
+    let d = first-holds _ _ (omega arith) (c .1) in
+    let e = first-holds _ _ (omega arith) (d .1) in
+    let f = first-holds _ _ (omega arith) (e .1) in
+    (record { sized = a .0; ordered = b .0; labelled = c .0; ranked = d .0; drawn = e .0 }, leb-true _ _ (f .0))
+
+pub no-refusal : (hash : List ℕ → List ℕ) (job : Job) (room : ℕ) → Valid hash job → boardLength job ≤ room → jobFault hash job room ≡ 0
+unfolding jobFault firstFault
+no-refusal hash job room v l = rw (v .sized, v .ordered, v .labelled, v .ranked, v .drawn, le-leb (boardLength job) room l)
+
+pub good-group : (hash : List ℕ → List ℕ) (job : Job) → Fine hash job → Good (groupOf hash job)
+unfolding orders generators isElement
+good-group hash job f =
+    let o = orders-of-test (job .n) (job .K) (job .p) (job .q) (f .ordered) in
+    let g = generators-of-test hash (job .label) (job .counter) (groupOf hash job) o (f .generated) in
+    let w = simp and-eq-true-iff at (f .ordered) in
+    let large : 2 ≤ job .p = o .prime-p .large in
+    let up : ¬ (job .p ≤ job .q) = λ l. let e : (job .p - 1) % job .q ≡ job .p - 1 = mod-eq-of-lt (omega arith) in omega (arith, o .divides) in
+    record {
+      large = large;
+      small = ltb-true (job .p) 2147483648 (w .0 .0 .0 .1);
+      some-q = omega (arith, o .prime-q .large);
+      q-below = omega arith;
+      root0 = g .order0;
+      root1 = g .order1;
+    }

@@ -1,0 +1,123 @@
+-- The proofs that a job writes are honest: those of its ballots, and those of its shifts.
+use Prim.Native.Nat.{ℕ, zero, suc, _+_, _*_, _-_, _%_, _^_, _≤_, _<_}
+use native.Mathlib.Nat.{sub-zero, mod-mod, mul-le-mul-right, le-refl, le-trans, eq-or-lt-of-le, le-of-suc-le-suc}
+use native.Mathlib.Omega.{arith}
+use mathlib.Core.Path.{_≡_, refl, _∙_}
+use mathlib.Core.Logic.{⊎-elim}
+use mathlib.Core.Bool.{Bool}
+use mathlib.Core.List.{List, []}
+use lib.Dec.{eqb}
+use lib.ListN.{getD}
+use Rattle.numbers.specs.Below.{sumBelow}
+use Rattle.group.specs.Arithmetic.{powMod}
+use Rattle.rules.specs.Group.{paired}
+use Rattle.rules.specs.Claims.{lineClaim, entryClaim, rowClaim, columnClaim}
+use Rattle.jobs.specs.Board.{lineProver, entryProver, rowProver, columnProver, jobMatrix}
+use Rattle.jobs.specs.Job.{Job, groupOf, rankingOf, secret, openedTo, standing, recordDraws, roundDraws, drawsAt, needed, plainResult, draw}
+use Rattle.whole.proofs.Elements.{Good, power-root, pair-root, paired-mod, root-mod, root-over, root-prod}
+use Rattle.whole.proofs.Complete.Honest.{Honest}
+use Rattle.numbers.proofs.Tests.{by-cases}
+use Rattle.whole.proofs.Complete.FineJob.{Fine, good-group}
+use Rattle.whole.proofs.Rankings.{row-one, column-one}
+use Rattle.whole.proofs.Lists.{standing-all}
+use Rattle.whole.proofs.Complete.Claims.{prod-powers, prod-pairs, pair-zero, pair-one}
+
+-- ---- where the draws of a record stand
+rounds-draws : (n K m m' : ℕ) → m ≤ m' → roundDraws n K m ≤ roundDraws n K m'
+unfolding roundDraws
+rounds-draws n K m zero l = let e : m ≡ 0 = omega arith in rw e (omega arith)
+rounds-draws n K m (suc m') l =
+    ⊎-elim
+    (λ (e : m ≡ suc m'). rw e (le-refl _))
+    (λ (b : m < suc m'). omega (arith, rounds-draws n K m m' (le-of-suc-le-suc b)))
+    (eq-or-lt-of-le l)
+
+matrix-draws : (n m : ℕ) → (n - m) * n ≤ recordDraws n m
+unfolding recordDraws
+matrix-draws n zero = rw sub-zero (omega arith)
+matrix-draws n (suc m) = omega arith
+
+-- a place in a matrix of so many rows
+pub cell : (n rows i j : ℕ) → i < rows → j < n → i * n + j < rows * n
+cell n rows i j a b = omega (arith, mul-le-mul-right n a)
+
+module _ (hash : List ℕ → List ℕ) (job : Job) (f : Fine hash job) (m k : ℕ) (in-round : m < plainResult job .rounds) (in-ballots : k < job .K) where
+  pub draw-at : (e d : ℕ) → e < recordDraws (job .n) m → d ≡ drawsAt (job .n) (job .K) m k + e → (1 ≤ draw job d) × (draw job d < job .q)
+  unfolding needed roundDraws
+  draw-at e d l q =
+      let up : roundDraws (job .n) (job .K) (suc m) ≤ roundDraws (job .n) (job .K) (plainResult job .rounds) = rounds-draws (job .n) (job .K) (suc m) _ in-round in
+      let more : (k + 1) * recordDraws (job .n) m ≤ job .K * recordDraws (job .n) m = mul-le-mul-right (recordDraws (job .n) m) (omega arith) in
+      f .drawn d (omega arith)
+
+  pub draw-below : (e d : ℕ) → e < recordDraws (job .n) m → d ≡ drawsAt (job .n) (job .K) m k + e → draw job d < job .q
+  draw-below e d l q = draw-at e d l q .1
+
+  pub secret-at : (i j : ℕ) → i < job .n - m → j < job .n → (1 ≤ secret job m k i j) × (secret job m k i j < job .q)
+  secret-at i j a b = draw-at (i * job .n + j) _ (le-trans (cell (job .n) (job .n - m) i j a b) (matrix-draws (job .n) m)) refl
+
+module _ (hash : List ℕ → List ℕ) (job : Job) (f : Fine hash job) (k : ℕ) (in-round : 0 < plainResult job .rounds) (in-ballots : k < job .K) where
+  good : Good (groupOf hash job)
+  good = good-group hash job f
+
+  entry-left : (i j l : ℕ) → entryClaim (groupOf hash job) (jobMatrix job (groupOf hash job) [] 0 k) i j l .left ^ job .q % job .p ≡ 1
+  unfolding entryClaim jobMatrix
+  entry-left i j zero = pair-root (groupOf hash job) good _ _
+  entry-left i j (suc l) = root-over (groupOf hash job) good _ _ (pair-root (groupOf hash job) good _ _) (good .root1)
+
+  entry-right : (i j l : ℕ) → entryClaim (groupOf hash job) (jobMatrix job (groupOf hash job) [] 0 k) i j l .right ^ job .q % job .p ≡ 1
+  unfolding entryClaim jobMatrix
+  entry-right i j zero = power-root (groupOf hash job) good _
+  entry-right i j (suc l) = power-root (groupOf hash job) good _
+
+  pub entry-honest : (i j : ℕ) → i < job .n → j < job .n →
+      Honest (groupOf hash job) (entryProver job (groupOf hash job) k i j)
+  unfolding entryClaim jobMatrix powMod recordDraws
+  entry-honest i j a b =
+      let v : Bool = eqb (getD (standing [] (rankingOf job k)) i 0) (j + 1) in
+      record {
+        good = good;
+        inside = by-cases v (λ e. rw e (omega arith)) (λ e. rw e (omega arith));
+        root-left = λ l _ _ _. entry-left i j l;
+        root-right = λ l _ _ _. entry-right i j l;
+        known-left = λ _ _. by-cases v
+            (λ e. rw e (rw e (pair-one (groupOf hash job) good _ _ (paired-mod (groupOf hash job) _ _))))
+            (λ e. rw e (rw e (pair-zero (groupOf hash job) good _)));
+        known-right = λ _ _. by-cases v (λ e. rw e (mod-mod _ (job .p))) (λ e. rw e (mod-mod _ (job .p)));
+        drawn = λ d l. draw-below hash job f 0 k in-round in-ballots (job .n * job .n + 3 * (i * job .n + j) + d) _ (omega (arith, cell (job .n) (job .n) i j a b)) (omega arith);
+      }
+
+  -- a row or column: n pairs that open to one 1 among them, and the proof of its claim, whose draw is the d-th of the record
+  module _ (x v : ℕ → ℕ) (one : sumBelow (job .n) v ≡ 1) (d : ℕ) (inside : d < recordDraws (job .n) 0) where
+    abbrev lineFirsts : ℕ → ℕ
+    lineFirsts i = paired (groupOf hash job) (x i) (v i)
+
+    abbrev lineSeconds : ℕ → ℕ
+    lineSeconds i = powMod (job .p) (groupOf hash job .g1) (x i)
+
+    line-honest : (from : ℕ) → from ≡ drawsAt (job .n) (job .K) 0 k + d →
+        Honest (groupOf hash job) (lineProver job (groupOf hash job) (lineClaim (groupOf hash job) (job .n) lineFirsts lineSeconds) x from)
+    line-honest from e =
+        record {
+          good = good;
+          inside = omega arith;
+          root-left = λ _ _ _ _.
+              root-over (groupOf hash job) good _ _ (root-prod (groupOf hash job) good (job .n) _ (λ i _. pair-root (groupOf hash job) good (x i) (v i))) (good .root1);
+          root-right = λ _ _ _ _. root-mod (groupOf hash job) good _ (root-prod (groupOf hash job) good (job .n) _ (λ i _. power-root (groupOf hash job) good (x i)));
+          known-left = λ _ _. pair-one (groupOf hash job) good _ _ (prod-pairs (groupOf hash job) good (job .n) x v ∙ rw one);
+          known-right = λ _ _. mod-mod _ (job .p) ∙ prod-powers (groupOf hash job) good (job .n) x;
+          drawn = λ d' l. draw-below hash job f 0 k in-round in-ballots (d + d') _ (omega arith) (omega arith);
+        }
+
+  pub row-honest : (i : ℕ) → i < job .n → Honest (groupOf hash job) (rowProver job (groupOf hash job) k i)
+  unfolding rowClaim jobMatrix recordDraws
+  row-honest i a =
+      line-honest (λ j. secret job 0 k i j) (λ j. openedTo job [] k i j)
+      (rw (standing-all (rankingOf job k)) (row-one (job .n) (rankingOf job k) (f .ranked k in-ballots) i a))
+      (4 * (job .n * job .n) + i) (omega arith) _ (omega arith)
+
+  pub column-honest : (j : ℕ) → j < job .n → Honest (groupOf hash job) (columnProver job (groupOf hash job) k j)
+  unfolding columnClaim jobMatrix recordDraws
+  column-honest j a =
+      line-honest (λ i. secret job 0 k i j) (λ i. openedTo job [] k i j)
+      (rw (standing-all (rankingOf job k)) (column-one (job .n) (rankingOf job k) (f .ranked k in-ballots) j a))
+      (4 * (job .n * job .n) + job .n + j) (omega arith) _ (omega arith)

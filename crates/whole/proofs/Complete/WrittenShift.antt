@@ -1,0 +1,133 @@
+-- The proof of a shift that a job writes is honest.
+use Prim.Native.Nat.{ℕ, zero, suc, _+_, _*_, _-_, _/_, _%_, _^_, _≤_, _<_}
+use native.Mathlib.Nat.{mod-lt, mod-mod, mod-eq-of-lt, mul-one, pow-zero, div-lt-iff-lt-mul}
+use native.Mathlib.Omega.{arith}
+use mathlib.Core.Path.{_≡_, sym, _∙_}
+use mathlib.Core.Bool.{true, cond}
+use mathlib.Core.List.{List, [], _∷_, _++_}
+use lib.Dec.{ltb, eqb}
+use lib.ListN.{length, getD}
+use borrow.Author.Tests.{eqb-false, eq-eqb, ne-eqb}
+use Rattle.numbers.proofs.Products.{prod-same}
+use Rattle.numbers.proofs.Sums.{sum-zero}
+use Rattle.group.specs.Elements.{Parameters}
+use Rattle.rules.specs.Group.{paired}
+use Rattle.group.specs.Arithmetic.{powMod}
+use Rattle.rules.specs.Claims.{Matrix, shiftClaim, source, besides}
+use Rattle.rules.specs.Count.{member}
+use Rattle.jobs.specs.Board.{shiftProver, jobMatrix, shiftWitness}
+use Rattle.jobs.specs.Job.{Job, groupOf, rankingOf, secret, standing, placeOf, recordDraws, plainResult}
+use Rattle.whole.proofs.Elements.{Good, power-root, pair-root, paired-mod, root-mod, root-over, root-prod, root-one}
+use Rattle.whole.proofs.Complete.Honest.{Honest}
+use Rattle.numbers.proofs.Tests.{by-cases}
+use Rattle.whole.proofs.Complete.FineJob.{Fine, good-group}
+use Rattle.whole.proofs.Rankings.{place-at, place-below, struck-at, times, times-member}
+use Rattle.whole.proofs.Lists.{strike}
+use Rattle.whole.proofs.Complete.Claims.{pair-none, prod-powers, prod-pairs, pair-one, pair-over, power-over}
+use Rattle.whole.proofs.Complete.Written.{draw-below, secret-at}
+
+-- a new row comes from one of one row more
+pub source-below : (l i rows : ℕ) → i < rows → source l i < rows + 1
+source-below l i rows h = by-cases (ltb i l) (λ e. rw e (omega arith)) (λ e. rw e (omega arith))
+
+module _ (hash : List ℕ → List ℕ) (job : Job) (f : Fine hash job) (before : List ℕ) (a m k : ℕ)
+    (in-round : suc m < plainResult job .rounds) (in-ballots : k < job .K) (rows : suc m ≤ job .n) (a-low : 1 ≤ a)
+    (a-once : times a (standing before (rankingOf job k)) ≡ 1) (short : length (standing before (rankingOf job k)) ≤ job .n - m) where
+  abbrev g : Parameters
+  g = groupOf hash job
+
+  abbrev row : ℕ
+  row = placeOf a (standing before (rankingOf job k))
+
+  abbrev old : Matrix
+  old = jobMatrix job g before m k
+
+  abbrev new : Matrix
+  new = jobMatrix job g (before ++ (a ∷ [])) (suc m) k
+
+  good : Good g
+  good = good-group hash job f
+
+  has : member a (standing before (rankingOf job k)) ≡ true
+  has = times-member a (standing before (rankingOf job k)) (omega arith)
+
+  here : getD (standing before (rankingOf job k)) row 0 ≡ a
+  here = place-at a (standing before (rankingOf job k)) has
+
+  root-left : (l i : ℕ) → shiftClaim g (job .n) old new (a - 1) l i .left ^ job .q % job .p ≡ 1
+  unfolding shiftClaim jobMatrix
+  root-left l zero = root-over g good _ _ (pair-root g good _ _) (good .root1)
+  root-left l (suc zero) =
+      root-mod g good _ (root-prod g good (job .n) _
+      (λ j _. by-cases (eqb j (a - 1)) (λ e. rw e (root-one g good)) (λ e. rw e (pair-root g good _ _))))
+  root-left l (suc (suc i)) = root-over g good _ _ (pair-root g good _ _) (pair-root g good _ _)
+
+  root-right : (l i : ℕ) → shiftClaim g (job .n) old new (a - 1) l i .right ^ job .q % job .p ≡ 1
+  unfolding shiftClaim jobMatrix
+  root-right l zero = power-root g good _
+  root-right l (suc zero) =
+      root-mod g good _ (root-prod g good (job .n) _
+      (λ j _. by-cases (eqb j (a - 1)) (λ e. rw e (root-one g good)) (λ e. rw e (power-root g good _))))
+  root-right l (suc (suc i)) = root-over g good _ _ (power-root g good _) (power-root g good _)
+
+  -- the secret of the pair that a new one comes from
+  source-secret : (i : ℕ) → i < (job .n - suc m) * job .n → secret job m k (source row (i / job .n)) (i % job .n) ≤ job .q
+  source-secret i l =
+      let some : 0 < job .n = omega (arith, f .n-low) in
+      let b : i / job .n < job .n - suc m = div-lt-iff-lt-mul some .1 l in
+      let c : source row (i / job .n) < job .n - suc m + 1 = source-below row (i / job .n) (job .n - suc m) b in
+      omega (arith, secret-at hash job f m k (omega arith) in-ballots (source row (i / job .n)) (i % job .n) (omega arith) (mod-lt i some) .1)
+
+  -- the new row i is the row that it comes from
+  moved : (i : ℕ) → getD (standing (before ++ (a ∷ [])) (rankingOf job k)) i 0 ≡ getD (standing before (rankingOf job k)) (source row i) 0
+  moved i = rw (← (strike a before (rankingOf job k))) (struck-at a (standing before (rankingOf job k)) a-once i)
+
+  -- the struck row has its 1 at a alone
+  besides-left : (j : ℕ) → j < job .n → besides (a - 1) (old .b row) j ≡ paired g (cond (eqb j (a - 1)) 0 (secret job m k row j)) 0
+  unfolding jobMatrix
+  besides-left j l =
+      by-cases (eqb j (a - 1))
+      (λ e. rw (e, pair-none g good))
+      (λ e. rw (e, here, ne-eqb a (j + 1) (λ q. eqb-false j (a - 1) e (omega arith))))
+
+  besides-right : (j : ℕ) → j < job .n → besides (a - 1) (old .y row) j ≡ powMod (job .p) (g .g1) (cond (eqb j (a - 1)) 0 (secret job m k row j))
+  unfolding jobMatrix powMod
+  besides-right j l = by-cases (eqb j (a - 1)) (λ e. rw (e, pow-zero (g .g1)) (sym (mod-eq-of-lt (good .large)))) (λ e. rw e)
+
+  known-left : (i : ℕ) → i < 2 + (job .n - suc m) * job .n →
+      shiftClaim g (job .n) old new (a - 1) row i .left % job .p ≡ job .g0 ^ shiftWitness job g m k (a - 1) row i % job .p
+  unfolding shiftClaim jobMatrix shiftWitness
+  known-left zero l =
+      let e : a ≡ a - 1 + 1 = omega arith in
+      pair-one g good _ _ (paired-mod g _ _ ∙ rw (here, eq-eqb a (a - 1 + 1) e))
+  known-left (suc zero) l =
+      let x : ℕ → ℕ = λ j. cond (eqb j (a - 1)) 0 (secret job m k row j) in
+      mod-mod _ (job .p)
+      ∙ rw (prod-same (job .n) (besides (a - 1) (old .b row)) (λ j. paired g (x j) 0) besides-left)
+      (prod-pairs g good (job .n) x (λ _. 0) ∙ rw (sum-zero (job .n), pow-zero (g .g1), mul-one))
+  known-left (suc (suc i)) l = rw (moved (i / job .n)) (pair-over g good _ _ _ (source-secret i (omega arith)))
+
+  known-right : (i : ℕ) → i < 2 + (job .n - suc m) * job .n →
+      shiftClaim g (job .n) old new (a - 1) row i .right % job .p ≡ g .g1 ^ shiftWitness job g m k (a - 1) row i % job .p
+  unfolding shiftClaim jobMatrix powMod shiftWitness
+  known-right zero l = mod-mod _ (job .p)
+  known-right (suc zero) l =
+      let x : ℕ → ℕ = λ j. cond (eqb j (a - 1)) 0 (secret job m k row j) in
+      mod-mod _ (job .p)
+      ∙ rw (prod-same (job .n) (besides (a - 1) (old .y row)) (λ j. powMod (job .p) (g .g1) (x j)) besides-right)
+      (prod-powers g good (job .n) x)
+  known-right (suc (suc i)) l = power-over g good _ _ (source-secret i (omega arith))
+
+  pub shift-honest :
+      Honest g (shiftProver job g before a m k)
+  unfolding recordDraws
+  shift-honest =
+      record {
+        good = good;
+        inside = omega (arith, place-below a (standing before (rankingOf job k)) has);
+        root-left = λ l i _ _. root-left l i;
+        root-right = λ l i _ _. root-right l i;
+        known-left = known-left;
+        known-right = known-right;
+        drawn = λ d l. draw-below hash job f (suc m) k in-round in-ballots ((job .n - suc m) * job .n + d) _ (omega arith) (omega arith);
+      }

@@ -1,0 +1,224 @@
+-- Laws of tables, membership, and of lists with members struck.
+use Prim.Native.Nat.{ℕ, zero, suc, _+_, _≤_, _<_}
+use mathlib.Core.Path.{_≡_, refl, sym, ap, ap₂, _∙_}
+use mathlib.Core.Bool.{Bool, true, false, not, cond, _||_, true≢false, false≢true, or-assoc, or-true, and-eq-true-iff}
+use mathlib.Core.List.{List, [], _∷_, _++_}
+use native.Mathlib.Nat.{eq-or-lt-of-le}
+use native.Mathlib.Decide.{decLt, decLe}
+use native.Mathlib.Omega.{arith}
+use lib.Dec.{eqb}
+use lib.ListN.{length, getD, length-append, List·getD-append}
+use lib.Seq.{getD-at}
+use borrow.Author.Tests.{le-leb, eq-eqb, ne-eqb, eqb-true, eqb-false}
+use mathlib.Core.Logic.{⊎-elim}
+use Rattle.numbers.specs.Below.{allBelow, sumBelow}
+use Rattle.numbers.proofs.Search.{extend}
+use Rattle.numbers.proofs.Sums.{sum-same, sum-swap, sum-constant}
+use Rattle.numbers.proofs.Tests.{all-at, one-fails, by-cases}
+use Rattle.rules.specs.Count.{member, table, isRanking, stillIn, firstIn, votesFor}
+use Rattle.jobs.specs.Job.{standing}
+use Rattle.rules.specs.Openings.{without}
+
+pub eqb-sym : (a b : ℕ) → eqb a b ≡ eqb b a
+eqb-sym a b = go (eqb a b) (eqb b a) refl refl
+  where
+    go : (s t : Bool) → eqb a b ≡ s → eqb b a ≡ t → eqb a b ≡ eqb b a
+    go true t e f = e ∙ sym (eq-eqb b a (sym (eqb-true a b e)))
+    go false true e f = absurd (eqb-false a b e (sym (eqb-true b a f)))
+    go false false e f = e ∙ sym f
+
+-- ---- tables
+module _ {ℓ} {A : Type ℓ} where
+  pub length-table : (n : ℕ) (f : ℕ → A) → length (table n f) ≡ n
+  unfolding table
+  length-table zero f = refl
+  length-table (suc n) f = simp (length-append, length-table n f) (omega arith)
+
+  pub table-at : (n : ℕ) (f : ℕ → A) (d : A) (i : ℕ) → i < n → getD (table n f) i d ≡ f i
+  unfolding table
+  table-at zero f d i l = absurd (omega arith)
+  table-at (suc n) f d i l =
+      extend (λ (i : ℕ). getD (table n f ++ (f n ∷ [])) i d ≡ f i) n
+      (λ i b. List·getD-append (table n f) (f n ∷ []) d i (rw length-table b) ∙ table-at n f d i b)
+      (getD-at (table n f) (f n) [] d n (length-table n f)) i l
+
+  pub table-same : (n : ℕ) (f g : ℕ → A) → ((i : ℕ) → i < n → f i ≡ g i) → table n f ≡ table n g
+  unfolding table
+  table-same zero f g h = refl
+  table-same (suc n) f g h = ap₂ (λ t x. t ++ (x ∷ [])) (table-same n f g (λ i l. h i (omega arith))) (h n (omega arith))
+
+-- ---- votes
+votes-append : (n : ℕ) (gone : List ℕ) (rs : List (List ℕ)) (r : List ℕ) (c : ℕ) →
+    votesFor n gone (rs ++ (r ∷ [])) c ≡ votesFor n gone rs c + cond (eqb (firstIn n gone r) c) 1 0
+unfolding votesFor
+votes-append n gone [] r c = omega arith
+votes-append n gone (x ∷ rs) r c = let h = votes-append n gone rs r c in omega arith
+
+pub votes-table : (n : ℕ) (gone : List ℕ) (K : ℕ) (r : ℕ → List ℕ) (c : ℕ) →
+    votesFor n gone (table K r) c ≡ sumBelow K (λ k. cond (eqb (firstIn n gone (r k)) c) 1 0)
+unfolding table sumBelow votesFor
+votes-table n gone zero r c = refl
+votes-table n gone (suc K) r c = votes-append n gone (table K r) (r K) c ∙ ap (λ (t : ℕ). t + cond (eqb (firstIn n gone (r K)) c) 1 0) (votes-table n gone K r c)
+
+-- ---- members struck
+pub member-append : (x : ℕ) (xs ys : List ℕ) → member x (xs ++ ys) ≡ (member x xs || member x ys)
+unfolding member
+member-append x [] ys = refl
+member-append x (y ∷ xs) ys = rw (member-append x xs ys) (sym (or-assoc (eqb x y) (member x xs) (member x ys)))
+
+pub standing-all : (r : List ℕ) → standing [] r ≡ r
+unfolding standing member
+standing-all [] = refl
+standing-all (x ∷ r) = ap (λ t. x ∷ t) (standing-all r)
+
+-- a list of processes: numbers from 1 to n
+abbrev pub Processes : ℕ → List ℕ → Type 0
+Processes n r = (c : ℕ) → member c r ≡ true → (1 ≤ c) × (c ≤ n)
+
+later : (n x : ℕ) (r : List ℕ) → Processes n (x ∷ r) → Processes n r
+unfolding member
+later n x r h c w = h c (simp (w, or-true))
+
+still-in : (n c : ℕ) (gone : List ℕ) → 1 ≤ c → c ≤ n → stillIn n gone c ≡ not (member c gone)
+unfolding stillIn
+still-in n c gone low high = rw (le-leb 1 c low, le-leb c n high)
+
+pub first-standing : (n : ℕ) (gone r : List ℕ) → Processes n r → getD (standing gone r) 0 0 ≡ firstIn n gone r
+unfolding standing firstIn
+first-standing n gone [] p = refl
+first-standing n gone (x ∷ r) p =
+    let w = p x (unfold member in simp (eq-eqb x x refl)) in
+    by-cases (member x gone)
+    (λ e. rw (still-in n x gone (w .0) (w .1), e) (first-standing n gone r (later n x r p)))
+    (λ e. rw (still-in n x gone (w .0) (w .1), e))
+
+-- striking one more
+pub strike : (c : ℕ) (gone r : List ℕ) → without c (standing gone r) ≡ standing (gone ++ (c ∷ [])) r
+unfolding without standing member
+strike c gone [] = refl
+strike c gone (x ∷ r) = go (member x gone) (eqb c x) (eqb-sym x c) refl refl (strike c gone r)
+  where
+    go : (b e : Bool) → eqb x c ≡ eqb c x → member x gone ≡ b → eqb c x ≡ e → without c (standing gone r) ≡ standing (gone ++ (c ∷ [])) r →
+        without c (standing gone (x ∷ r)) ≡ standing (gone ++ (c ∷ [])) (x ∷ r)
+    go true e s hb he ih = simp (member-append, hb) ih
+    go false true s hb he ih = simp (member-append, hb, s, he) ih
+    go false false s hb he ih = simp (member-append, hb, s, he) (ap (λ t. x ∷ t) ih)
+
+-- ---- n numbers take n places
+pub length-without : (c : ℕ) (xs : List ℕ) → length (without c xs) ≤ length xs
+unfolding without
+length-without c [] = omega arith
+length-without c (x ∷ xs) = go (eqb c x) (length-without c xs)
+  where
+    go : (b : Bool) → length (without c xs) ≤ length xs → length (cond b (without c xs) (x ∷ without c xs)) ≤ suc (length xs)
+    go true h = omega arith
+    go false h = omega arith
+
+pub shorter : (c : ℕ) (xs : List ℕ) → member c xs ≡ true → length (without c xs) < length xs
+unfolding without member
+shorter c [] h = absurd (false≢true h)
+shorter c (x ∷ xs) h = go (eqb c x) refl (shorter c xs)
+  where
+    go : (b : Bool) → eqb c x ≡ b → (member c xs ≡ true → length (without c xs) < length xs) → length (without c (x ∷ xs)) < suc (length xs)
+    go true e ih = simp e (omega (arith, length-without c xs))
+    go false e ih = simp e (omega (arith, ih (simp e at h)))
+
+pub member-without : (c d : ℕ) (xs : List ℕ) → (d ≡ c → ⊥) → member d (without c xs) ≡ member d xs
+unfolding without member
+member-without c d [] ne = refl
+member-without c d (x ∷ xs) ne = go (eqb c x) refl (member-without c d xs ne)
+  where
+    go : (b : Bool) → eqb c x ≡ b → member d (without c xs) ≡ member d xs → member d (without c (x ∷ xs)) ≡ member d (x ∷ xs)
+    go true e ih = let apart : eqb d x ≡ false = ne-eqb d x (λ w. ne (w ∙ sym (eqb-true c x e))) in simp (e, apart) ih
+    go false e ih = simp e (ap (λ t. eqb d x || t) ih)
+
+pub pigeonhole : (n : ℕ) (xs : List ℕ) → ((i : ℕ) → i < n → member (suc i) xs ≡ true) → n ≤ length xs
+pigeonhole zero xs h = omega arith
+pigeonhole (suc n) xs h =
+    let less = shorter (suc n) xs (h n (omega arith)) in
+    let rest = pigeonhole n (without (suc n) xs) (λ i l. member-without (suc n) (suc i) xs (λ e. omega arith) ∙ h i (omega arith)) in
+    omega arith
+
+pub member-standing : (c : ℕ) (gone r : List ℕ) → member c gone ≡ false → member c r ≡ true → 0 < length (standing gone r)
+unfolding standing member
+member-standing c gone [] out h = absurd (false≢true h)
+member-standing c gone (x ∷ r) out h = go (member x gone) refl (member-standing c gone r out)
+  where
+    go : (b : Bool) → member x gone ≡ b → (member c r ≡ true → 0 < length (standing gone r)) → 0 < length (standing gone (x ∷ r))
+    go true e ih = simp e (ih (differ (eqb c x) refl))
+      where
+        differ : (b : Bool) → eqb c x ≡ b → member c r ≡ true
+        differ true w = absurd (true≢false (sym e ∙ rw (← (eqb-true c x w)) out))
+        differ false w = simp w at h
+    go false e ih = simp e (omega arith)
+
+-- a ranking is not used up while fewer than n have gone
+pub some-stand : (n : ℕ) (gone r : List ℕ) → isRanking n r ≡ true → length gone < n → 0 < length (standing gone r)
+unfolding isRanking
+some-stand n gone r h l = go (allBelow n (λ i. member (suc i) gone)) refl
+  where
+    go : (b : Bool) → allBelow n (λ i. member (suc i) gone) ≡ b → 0 < length (standing gone r)
+    go true e = absurd (omega (arith, pigeonhole n gone (all-at n (λ i. member (suc i) gone) e)))
+    go false e =
+        let w = one-fails n (λ i. member (suc i) gone) e in
+        let has = and-eq-true-iff (eqb (length r) n) (allBelow n (λ i. member (suc i) r)) .0 h .1 in
+        member-standing (suc (w .0)) gone r (w .2) (all-at n (λ i. member (suc i) r) has (w .0) (w .1))
+
+-- ---- every ranking counts one, for one of 1 .. n
+pub ranked-processes : (n : ℕ) (r : List ℕ) → isRanking n r ≡ true → Processes n r
+unfolding isRanking
+ranked-processes n r h c w = (
+  elim (decLt 0 c) [ yes l ↦ l | no l ↦ absurd (outside (λ i il. omega arith)) ],
+  elim (decLe c n) [ yes l ↦ l | no l ↦ absurd (outside (λ i il. omega arith)) ],
+)
+  where
+    outside : ((i : ℕ) → i < n → suc i ≡ c → ⊥) → ⊥
+    outside apart =
+        let has = and-eq-true-iff (eqb (length r) n) (allBelow n (λ i. member (suc i) r)) .0 h in
+        let long = eqb-true (length r) n (has .0) in
+        let less = shorter c r w in
+        let rest = pigeonhole n (without c r) (λ i l. member-without c (suc i) r (apart i l) ∙ all-at n (λ i. member (suc i) r) (has .1) i l) in
+        omega arith
+
+pub standing-member : (c : ℕ) (gone r : List ℕ) → member c (standing gone r) ≡ true → member c r ≡ true
+unfolding standing member
+standing-member c gone [] w = w
+standing-member c gone (x ∷ r) w =
+    by-cases (member x gone)
+    (λ e. simp (standing-member c gone r (rw e at w), or-true))
+    (λ e. by-cases (eqb c x) (λ q. rw q) (λ q. rw q (standing-member c gone r (rw (e, q) at w))))
+
+first-of : (r : List ℕ) → 0 < length r → member (getD r 0 0) r ≡ true
+unfolding member
+first-of [] l = absurd (omega arith)
+first-of (x ∷ r) l = simp (eq-eqb x x refl)
+
+-- of the tests whether c is 1, .., n one passes
+none-is : (n c : ℕ) → n < c → sumBelow n (λ i. cond (eqb c (suc i)) 1 0) ≡ 0
+unfolding sumBelow
+none-is zero c l = refl
+none-is (suc n) c l = simp (none-is n c (omega arith), ne-eqb c (suc n) (λ e. omega arith))
+
+one-is : (n c : ℕ) → 1 ≤ c → c ≤ n → sumBelow n (λ i. cond (eqb c (suc i)) 1 0) ≡ 1
+unfolding sumBelow
+one-is zero c l u = absurd (omega arith)
+one-is (suc n) c l u =
+    ⊎-elim
+    (λ (e : c ≡ suc n). simp (none-is n c (omega arith), eq-eqb c (suc n) e))
+    (λ (b : c < suc n). simp (one-is n c l (omega arith), ne-eqb c (suc n) (λ e. omega arith)))
+    (eq-or-lt-of-le u)
+
+pub votes-sum : (n K : ℕ) (gone : List ℕ) (r : ℕ → List ℕ) → ((k : ℕ) → k < K → isRanking n (r k) ≡ true) → length gone < n →
+    sumBelow n (λ i. votesFor n gone (table K r) (suc i)) ≡ K
+votes-sum n K gone r full l =
+    sum-same n _ _ (λ i il. votes-table n gone K r (suc i))
+    ∙ sum-swap n K (λ i k. cond (eqb (firstIn n gone (r k)) (suc i)) 1 0)
+    ∙ sum-same K _ (λ k. 1) one
+    ∙ omega (arith, sum-constant K 1)
+  where
+    one : (k : ℕ) → k < K → sumBelow n (λ i. cond (eqb (firstIn n gone (r k)) (suc i)) 1 0) ≡ 1
+    one k b =
+        let p = ranked-processes n (r k) (full k b) in
+        let here = first-of (standing gone (r k)) (some-stand n gone (r k) (full k b) l) in
+        let w = p (firstIn n gone (r k)) (rw (first-standing n gone (r k) p) at (standing-member _ gone (r k) here)) in
+        one-is n (firstIn n gone (r k)) (w .0) (w .1)

@@ -1,0 +1,158 @@
+-- The first half of the third demand: an accepted board whose matrices open says what the plain count of those rankings says.
+pub mod Tally
+pub mod Accepted
+use Prim.Native.Nat.{ℕ, zero, suc, _+_, _-_, _≤_, _<_}
+use mathlib.Core.Path.{_≡_, refl, sym, ap, _∙_}
+use mathlib.Core.Bool.{Bool, true, false, cond}
+use mathlib.Core.List.{List, [], _∷_, _++_}
+use mathlib.Core.Logic.{⊎-elim}
+use native.Mathlib.Numerals.{add-one}
+use native.Mathlib.Omega.{arith}
+use lib.Dec.{eqb}
+use lib.ListN.{length}
+use borrow.Author.Tests.{eqb-false}
+use Rattle.numbers.specs.Below.{sumBelow}
+use Rattle.numbers.proofs.Search.{extend}
+use Rattle.whole.proofs.Lists.{length-table, table-same, votes-table, votes-sum, standing-all, first-standing, strike, ranked-processes}
+use Rattle.numbers.proofs.Tests.{or-false-left}
+use Rattle.numbers.proofs.Sums.{sum-same, sum-constant}
+use Rattle.whole.specs.ThirdDemand.{IsPlain, sheetsOn}
+use Rattle.rules.specs.Check.{checkBoard, accepted, Header, header, outField, countField, counts, due, checkFrom}
+use Rattle.whole.proofs.Sound.Accepted.{Marked, refused-not-accepted, GoodHeader, GoodSheet, Last, Goes-on, round-accepted, firstB, firstY, rounds-after, board-accepted}
+use Rattle.whole.proofs.Sound.Tally.{counted}
+use Rattle.rules.specs.Count.{Standing, start, next, leaves, closes, table, firstIn, votesFor, countsOf, ended, countFrom, plainCount}
+use Rattle.jobs.specs.Job.{standing}
+use Rattle.rules.specs.Openings.{Opening, listAt, Opens}
+
+one-vote : (b : Bool) → cond b 1 0 ≤ 1
+one-vote true = omega arith
+one-vote false = omega arith
+
+module _ (hash : List ℕ → List ℕ) (s : List ℕ) (rankings : ℕ → List ℕ) where
+  abbrev h : Header
+  h = header s
+
+  abbrev countsAt : ℕ → List ℕ
+  countsAt m = counts s h m
+
+  abbrev votes : List (List ℕ)
+  votes = table (h .K) rankings
+
+  -- the sheet of round m: its counts sum to K, and it is the round's one RT
+  record Sheeted (m : ℕ) : Type 0 where
+    summed : sumBelow (h .n) (countField s h m) ≡ h .K
+    marked : Marked hash s h m
+
+  -- the standing count before round m, and what the ballots are to open to there
+  record Reached (m : ℕ) (st : Standing) : Type 0 where
+    early : suc m < h .n
+    sheets : st .sheets ≡ table m countsAt
+    outs : st .gone ≡ table m (outField s h)
+    lists : (k : ℕ) → listAt s rankings m k ≡ standing (st .gone) (rankings k)
+    earlier : (m′ : ℕ) → m′ < m → Sheeted m′
+
+  sheets-counted : (m : ℕ) (st : Standing) → Reached m st → length (st .sheets) ≡ m
+  sheets-counted m st r = ap length (r .sheets) ∙ length-table m countsAt
+
+  gone-counted : (m : ℕ) (st : Standing) → Reached m st → length (st .gone) ≡ m
+  gone-counted m st r = ap length (r .outs) ∙ length-table m (outField s h)
+
+  fewer : (m : ℕ) (st : Standing) → Reached m st → length (st .gone) < h .n
+  fewer m st r = let e : suc m < h .n = r .early in omega (arith, gone-counted m st r)
+
+  at-start : 2 ≤ h .n → Reached 0 start
+  unfolding table listAt
+  at-start l = record { early = l; sheets = refl; outs = refl; lists = λ k. sym (standing-all (rankings k)); earlier = λ m′ b. absurd (omega arith) }
+
+  -- after a sheet that does not close
+  goes-on : (m : ℕ) (st : Standing) → Reached m st → closes (h .n) st (countsAt m) (h .K) ≡ false → outField s h m ≡ leaves (h .n) st (countsAt m) →
+      Sheeted m → Reached (suc m) (next (h .n) st (countsAt m))
+  unfolding closes listAt table
+  goes-on m st r c e sheet =
+      let more = eqb-false (length (st .sheets) + 1) (h .n - 1) (or-false-left _ _ c) in
+      let not-yet : m + 1 ≡ h .n - 1 → ⊥ = λ w. more (cc (sheets-counted m st r)) in
+      let before : suc m < h .n = r .early in
+      record {
+        early = omega arith;
+        sheets = ap (λ t. t ++ (countsAt m ∷ [])) (r .sheets);
+        outs = cc (r .outs, e);
+        lists = λ k. simp (r .lists k, e) (strike (leaves (h .n) st (countsAt m)) (st .gone) (rankings k));
+        earlier = extend Sheeted m (r .earlier) sheet;
+      }
+
+  module _ (rounds : ℕ) (order : List ℕ) (winner : ℕ) (good : GoodHeader hash s h) (o : Opens s rankings rounds) where
+    -- the sheet's counts are the plain count's
+    count-right : (m due : ℕ) (st : Standing) → Reached m st → m < rounds → GoodSheet hash s h m due → (i : ℕ) → i < h .n →
+        countField s h m i ≡ votesFor (h .n) (st .gone) votes (suc i)
+    count-right m due st r b sheet i l =
+        counted (h .group) (good .orders) (good .generators)
+        _ _ (λ k. cond (eqb (firstIn (h .n) (st .gone) (rankings k)) (suc i)) 1 0) _ _
+        (λ k kl. opening k kl)
+        (λ k kl. one-vote (eqb (firstIn (h .n) (st .gone) (rankings k)) (suc i)))
+        (sheet .small i l) (sheet .tally-b i l) (sheet .tally-y i l)
+        ∙ sym (votes-table (h .n) (st .gone) (h .K) rankings (suc i))
+      where
+        opening : (k : ℕ) → k < h .K →
+            (x : ℕ) × Opening (h .group) (firstB hash s h m i k) (firstY hash s h m i k) x (cond (eqb (firstIn (h .n) (st .gone) (rankings k)) (suc i)) 1 0)
+        opening k kl =
+            let listed = ranked-processes (h .n) (rankings k) (o .full k kl) in
+            rw (r .lists k, first-standing (h .n) (st .gone) (rankings k) listed, add-one) at (o .opens m k b kl .pairs 0 i (omega (arith, r .early)) l)
+
+    counts-right : (m due : ℕ) (st : Standing) → Reached m st → m < rounds → GoodSheet hash s h m due → countsAt m ≡ countsOf (h .n) votes (st .gone)
+    unfolding counts countsOf
+    counts-right m due st r b sheet = table-same (h .n) _ _ (count-right m due st r b sheet)
+
+    sum-right : (m due : ℕ) (st : Standing) → Reached m st → m < rounds → GoodSheet hash s h m due → sumBelow (h .n) (countField s h m) ≡ h .K
+    sum-right m due st r b sheet = sum-same (h .n) _ _ (count-right m due st r b sheet) ∙ votes-sum (h .n) (h .K) (st .gone) rankings (o .full) (fewer m st r)
+
+    all-marked : (m : ℕ) (st : Standing) → Reached m st → Sheeted m → sheetsOn s (suc m) ≡ suc m
+    all-marked m st r sheet =
+        sum-same (suc m) _ (λ _. 1) (λ m′ b. extend Sheeted m (r .earlier) sheet m′ b .marked) ∙ omega (arith, sum-constant (suc m) 1)
+
+    all-counts : (m : ℕ) (st : Standing) → Reached m st → table (suc m) countsAt ≡ st .sheets ++ (countsAt m ∷ [])
+    unfolding table
+    all-counts m st r = ap (λ t. t ++ (countsAt m ∷ [])) (sym (r .sheets))
+
+    closing : (m : ℕ) (st : Standing) → Reached m st → countsAt m ≡ countsOf (h .n) votes (st .gone) → Sheeted m → Last hash s h st m rounds order winner →
+        IsPlain s rounds order winner (ended (h .n) st (countsOf (h .n) votes (st .gone)))
+    closing m st r e sheet l =
+        let now : rounds ≡ suc m = omega (arith, l .rounds-are) in
+        let before : rounds - 1 ≡ m = omega arith in
+        record {
+          same-rounds = cc (l .rounds-are, sheets-counted m st r);
+          same-order = l .order-is;
+          same-winner = rw (← e) (l .winner-is);
+          same-sheets = rw now (all-marked m st r sheet ∙ sym (cc (sheets-counted m st r, add-one m)));
+          same-counts = rw (now, ← e) (all-counts m st r);
+          same-outs = rw before (sym (r .outs));
+          whole = rw now (l .ends);
+          sums = λ m′ b. extend Sheeted m (r .earlier) sheet m′ (rw now at b) .summed;
+        }
+
+    -- from round m on
+    in-step : (fuel : ℕ) (st : Standing) (m a : ℕ) → Reached m st → checkFrom hash s h fuel st m a ≡ accepted rounds order winner →
+        IsPlain s rounds order winner (countFrom (h .n) votes fuel st)
+    unfolding checkFrom countFrom
+    in-step zero st m a r e = absurd (refused-not-accepted e)
+    in-step (suc fuel) st m a r e =
+        let w = round-accepted hash s h st m a _ rounds order winner e in
+        let past = rounds-after hash s h (suc fuel) st m a rounds order winner e in
+        let same = counts-right m _ st r past (w .0) in
+        let sheet : Sheeted m = record { summed = sum-right m _ st r past (w .0); marked = w .1 } in
+        ⊎-elim
+        (λ (l : Last hash s h st m rounds order winner).
+        let c : closes (h .n) st (countsOf (h .n) votes (st .gone)) (length votes) ≡ true = rw (← same, length-table) (l .closed) in
+        rw c (closing m st r same sheet l))
+        (λ (g : Goes-on hash s h st m (checkFrom hash s h fuel (next (h .n) st (countsAt m)) (suc m) (leaves (h .n) st (countsAt m))) (accepted rounds order winner)).
+        let c : closes (h .n) st (countsOf (h .n) votes (st .gone)) (length votes) ≡ false = rw (← same, length-table) (g .open-still) in
+        rw (c, ← same)
+        (in-step fuel (next (h .n) st (countsAt m)) (suc m) (leaves (h .n) st (countsAt m))
+        (goes-on m st r (g .open-still) (rw (g .open-still) at (w .0 .out-due)) sheet) (g .then)))
+        (w .2)
+
+pub sound : (hash : List ℕ → List ℕ) (s : List ℕ) (rounds : ℕ) (order : List ℕ) (winner : ℕ) (rankings : ℕ → List ℕ) →
+    checkBoard hash s ≡ accepted rounds order winner → Opens s rankings rounds → IsPlain s rounds order winner (plainCount (header s .n) (table (header s .K) rankings))
+unfolding plainCount
+sound hash s rounds order winner rankings e o =
+    let b = board-accepted hash s rounds order winner e in
+    in-step hash s rankings rounds order winner (b .0) o (header s .n) start 0 0 (at-start hash s rankings (b .0 .two)) (b .1)

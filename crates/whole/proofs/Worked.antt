@@ -1,0 +1,131 @@
+-- The starred cases hold.
+use Prim.Native.Nat.{ℕ, suc, _*_, _-_, _≤_, _<_}
+use mathlib.Core.Path.{_≡_, refl, _∙_}
+use mathlib.Core.Bool.{Bool, true, false, not, _&&_, and-false, or-true}
+use mathlib.Core.List.{List, [], _∷_}
+use native.Mathlib.Omega.{arith}
+use lib.Dec.{ltb, eqb}
+use lib.ListN.{replicate}
+use borrow.Author.Tests.{le-ltb, ne-eqb}
+use Rattle.numbers.specs.Below.{allBelow}
+use Rattle.numbers.specs.Primes.{isPrime}
+use Rattle.numbers.proofs.Tests.{any-holds, any-fails}
+use Rattle.sha256.specs.Words.{ROTR, ¬w, Ch, Maj, Σ₀, Σ₁, σ₀, σ₁}
+use Rattle.sha256.specs.Block as Block
+use Rattle.sha256.specs.Message as Message
+use Rattle.sha256.specs.Message.{sha256}
+use Rattle.group.specs.Arithmetic.{powMod}
+use Rattle.group.specs.Elements.{isElement}
+use Rattle.rules.specs.Group.{orders, derived, generators}
+use Rattle.rules.specs.Proofs.{statementHolds}
+use Rattle.rules.specs.Records.{roundAt}
+use Rattle.rules.specs.Count.{Standing, roundOf, start, member, countOf, leaves, lowest, majority, closes, isRanking, table, plainCount}
+use Rattle.rules.specs.Openings.{without}
+use Rattle.jobs.specs.Job.{needed, roundDraws, boardLength}
+use Rattle.whole.specs.ThirdDemand.{Valid}
+use Rattle.whole.specs.Worked.{Pair, circle, smallJob, Circle, Worked}
+use Rattle.whole.proofs.Complete.{written}
+
+statement-met : statementHolds 23 2 3 (record { left = 9; right = 13 }) 16 12 3 8 ≡ true
+unfolding statementHolds powMod
+statement-met = refl
+
+statement-unmet : statementHolds 23 2 3 (record { left = 9; right = 13 }) 16 12 3 7 ≡ false
+unfolding statementHolds powMod
+statement-unmet = refl
+
+five-one : Pair 5 1 4 13
+unfolding powMod
+five-one = record { first = refl; second = refl; opens = record { x-below = omega arith; v-below = omega arith; first = refl; second = refl } }
+
+five-zero : Pair 5 0 9 13
+unfolding powMod
+five-zero = record { first = refl; second = refl; opens = record { x-below = omega arith; v-below = omega arith; first = refl; second = refl } }
+
+seven-one : Pair 7 1 16 2
+unfolding powMod
+seven-one = record { first = refl; second = refl; opens = record { x-below = omega arith; v-below = omega arith; first = refl; second = refl } }
+
+product-tally : Pair 1 2 18 3
+unfolding powMod
+product-tally = record { first = refl; second = refl; opens = record { x-below = omega arith; v-below = omega arith; first = refl; second = refl } }
+
+one-out : (closes 4 start (8 ∷ 17 ∷ 16 ∷ 19 ∷ []) 60 ≡ false) × (leaves 4 start (8 ∷ 17 ∷ 16 ∷ 19 ∷ []) ≡ 1)
+unfolding closes lowest
+one-out = (refl, refl)
+
+-- a process still in has more than half of 60
+abbrev over-half : Standing → (counts : List ℕ) (i : ℕ) → Bool
+over-half st counts i = not (member (suc i) (st .gone)) && ltb 60 (2 * countOf counts (suc i))
+
+half-open : (n : ℕ) (st : Standing) (counts : List ℕ) → roundOf st < n - 1 → ((i : ℕ) → i < n → countOf counts (suc i) ≤ 30) → closes n st counts 60 ≡ false
+unfolding closes majority
+half-open n st counts early few =
+    rw (
+      ne-eqb (roundOf st) (n - 1) (λ e. omega arith),
+      any-fails n (over-half st counts) (λ i l. rw (le-ltb 60 (2 * countOf counts (suc i)) (omega (arith, few i l))) (and-false (not (member (suc i) (st .gone))))),
+    )
+
+more-closes : (n i : ℕ) (st : Standing) (counts : List ℕ) → i < n → member (suc i) (st .gone) ≡ false → countOf counts (suc i) ≡ 31 → closes n st counts 60 ≡ true
+unfolding closes majority
+more-closes n i st counts l still e =
+    rw (any-holds n i (over-half st counts) l (rw (still, e))) (or-true (eqb (roundOf st) (n - 1)))
+
+two-struck : without 1 (without 4 (4 ∷ 2 ∷ 1 ∷ 3 ∷ [])) ≡ 2 ∷ 3 ∷ []
+unfolding without
+two-struck = refl
+
+one-each-way : plainCount 2 ((1 ∷ 2 ∷ []) ∷ (2 ∷ 1 ∷ []) ∷ []) ≡ record { rounds = 1; counts = (1 ∷ 1 ∷ []) ∷ []; order = []; winner = 1 }
+unfolding plainCount
+one-each-way = refl
+
+module _ (hash : List ℕ → List ℕ) (p q g0 counter : ℕ) (label draws : List ℕ) where
+  circle-size : boardLength (circle p q g0 counter label draws) ≡ 2534
+  unfolding boardLength plainCount table roundAt
+  circle-size = refl
+
+  circle-draws : needed (circle p q g0 counter label draws) ≡ 222
+  unfolding needed plainCount table roundDraws
+  circle-draws = refl
+
+  goes-around : Valid hash (circle p q g0 counter label draws) → Circle hash (circle p q g0 counter label draws)
+  unfolding plainCount table
+  goes-around v =
+      let w = written hash (circle p q g0 counter label draws) v in
+      record { size = w .measured ∙ circle-size; draws = circle-draws; verdict = w .accepts }
+
+small-made : derived sha256 (replicate 32 0) 23 11 2 1 ≡ 3
+unfolding derived powMod ROTR ¬w Ch Maj Σ₀ Σ₁ σ₀ σ₁ Block.K Block.H₀ Block.word Block.words Block.next Block.schedule Block.T₁ Block.T₂ Block.round Block.rounds Block.sums Block.compress Message.be64 Message.padding Message.padded Message.blocks Message.bytes sha256
+small-made = refl
+
+small-valid : Valid sha256 smallJob
+unfolding orders generators isPrime isElement powMod allBelow isRanking
+small-valid =
+    record {
+      sized = refl;
+      ordered = refl;
+      labelled = rw small-made;
+      ranked = refl;
+      drawn = rw (circle-draws sha256 23 11 2 1 (replicate 32 0) (replicate 222 5));
+    }
+
+pub worked : Worked
+worked =
+    record {
+      five-one = five-one;
+      five-zero = five-zero;
+      seven-one = seven-one;
+      product = (refl, refl);
+      product-tally = product-tally;
+      met = statement-met;
+      unmet = statement-unmet;
+      goes-out = one-out;
+      half = half-open;
+      more = more-closes;
+      struck = two-struck;
+      each-way = one-each-way;
+      around = goes-around;
+      made = small-made;
+      small-valid = small-valid;
+      small-around = goes-around sha256 23 11 2 1 (replicate 32 0) (replicate 222 5) small-valid;
+    }

@@ -1,0 +1,41 @@
+-- What the refusals name: never the end of the fuel, never a record or a ranking that is not there.
+use Prim.Native.Nat.{ℕ, suc, _+_, _*_, _-_, _≤_, _<_}
+use mathlib.Core.Path.{_≡_}
+use mathlib.Core.Logic.{_↔_}
+use mathlib.Core.Bool.{true, false}
+use mathlib.Core.List.{List, [], _∷_}
+use lib.ListN.{length}
+use Rattle.rules.specs.Records.{roundAt}
+use Rattle.rules.specs.Count.{member, isRanking, start, countFrom, plainCount}
+use Rattle.rules.specs.Check.{header, refused, checkBoard}
+use Rattle.jobs.specs.Job.{Job, rankingOf, boardLength}
+use Rattle.whole.specs.ThirdDemand.{Valid}
+use Rattle.jobs.specs.Write.{jobFault, jobRefused, writeOutcome}
+
+-- "The result of a refusal is its number and the record's number (with 12, the number of records read)"
+pub record BoardRefusal (s : List ℕ) (number place : ℕ) : Type 0 where
+  pub low : 1 ≤ number
+  pub high : number ≤ 12
+  -- the rounds read, the last perhaps in part: those before it stand on the board in full
+  pub rounds : ℕ
+  pub few : rounds ≤ header s .n - 1
+  pub stands : (m : ℕ) → rounds ≡ suc m → roundAt (header s .n) (header s .K) m ≤ length s
+  pub within : place ≤ rounds * (header s .K + 1) + 1
+
+-- "With 13 goes the first bad ranking from 1, or 0 for a wrong length; with the others 0."
+pub record JobRefusal (job : Job) (number which : ℕ) : Type 0 where
+  pub numbered : member number (3 ∷ 4 ∷ 5 ∷ 13 ∷ 14 ∷ 15 ∷ []) ≡ true
+  pub others : (number ≡ 13 → ⊥) → which ≡ 0
+  pub wrong-length : (length (job .rankings) ≡ job .K * job .n → ⊥) → which ≡ 0
+  pub first-bad : number ≡ 13 → length (job .rankings) ≡ job .K * job .n →
+      (k : ℕ) × (which ≡ suc k) × (k < job .K) × (isRanking (job .n) (rankingOf job k) ≡ false)
+      × ((i : ℕ) → i < k → isRanking (job .n) (rankingOf job i) ≡ true)
+
+pub record Refusals (hash : List ℕ → List ℕ) : Type 0 where
+  pub of-boards : (s : List ℕ) (number place : ℕ) → checkBoard hash s ≡ refused number place → BoardRefusal s number place
+  pub of-jobs : (job : Job) (room number which : ℕ) → writeOutcome hash job room ≡ jobRefused number which → JobRefusal job number which
+  -- a job is written just where it is valid and its board fits
+  pub none : (job : Job) (room : ℕ) → (jobFault hash job room ≡ 0) ↔ (Valid hash job × (boardLength job ≤ room))
+  -- the plain count of 2 or more processes ends by itself: more fuel changes nothing
+  pub of-counts : (n extra : ℕ) (rankings : List (List ℕ)) → 2 ≤ n →
+      (plainCount n rankings .rounds ≤ n - 1) × (countFrom n rankings (n + extra) start ≡ plainCount n rankings)

@@ -1,0 +1,61 @@
+-- The third demand as one statement about whole boards, first byte to last. docs/THIRD_DEMAND.md puts it beside the demand's words.
+use Prim.Native.Nat.{ℕ, _+_, _-_, _≤_, _<_}
+use mathlib.Core.Path.{_≡_}
+use mathlib.Core.Bool.{true, cond}
+use mathlib.Core.List.{List}
+use lib.ListN.{length}
+use Rattle.numbers.specs.Below.{sumBelow}
+use Rattle.rules.specs.Group.{sizes, orders}
+use Rattle.rules.specs.Records.{RT, hasMark, roundAt}
+use Rattle.rules.specs.Count.{table, Result, plainCount}
+use Rattle.rules.specs.Check.{accepted, header, place, outField, countField, counts, checkBoard}
+use Rattle.rules.specs.Openings.{Opens}
+use Rattle.jobs.specs.Job.{Job, headerOf, rankingOf, plainResult, boardLength}
+use Rattle.jobs.specs.Board.{board}
+use Rattle.jobs.specs.Write.{labelGood, rankingsGood, drawsGood, boardWritten, writeOutcome}
+
+-- "the number of RT on the board", of its records in so many rounds
+abbrev pub sheetsOn : (s : List ℕ) (rounds : ℕ) → ℕ
+sheetsOn s rounds = sumBelow rounds (λ m. sumBelow (header s .K + 1) (λ k. cond (hasMark s (place (header s) m k) RT) 1 0))
+
+-- "Equal to these are the number of RT on the board, the n counts on the m-th RT for each round m, the out fields ahead of the closing sheet
+-- in their order, and the rounds, order and winner in the checker's answer"; "each sheet's counts sum to K"
+pub record IsPlain (s : List ℕ) (rounds : ℕ) (order : List ℕ) (winner : ℕ) (plain : Result) : Type 0 where
+  pub same-rounds : rounds ≡ plain .rounds
+  pub same-order : order ≡ plain .order
+  pub same-winner : winner ≡ plain .winner
+  pub same-sheets : sheetsOn s rounds ≡ plain .rounds
+  pub same-counts : table rounds (counts s (header s)) ≡ plain .counts
+  pub same-outs : table (rounds - 1) (outField s (header s)) ≡ plain .order
+  -- the records of the rounds are all that the board holds
+  pub whole : length s ≡ roundAt (header s .n) (header s .K) rounds
+  pub sums : (m : ℕ) → m < rounds → sumBelow (header s .n) (countField s (header s) m) ≡ header s .K
+
+module _ (hash : List ℕ → List ℕ) where
+  -- "from 1 to 1,000 rankings of 2 to 8 processes, in any valid group with any valid draws":
+  -- "A group with its label and counter is valid if neither 4 nor 5 is due; draws are valid if 14 is not due."
+  pub record Valid (job : Job) : Type 0 where
+    pub sized : sizes (job .n) (job .K) ≡ true
+    pub ordered : orders (job .n) (job .K) (job .p) (job .q) ≡ true
+    pub labelled : labelGood hash job ≡ true
+    pub ranked : rankingsGood job ≡ true
+    pub drawn : drawsGood job ≡ true
+
+  -- the board of a job is accepted with the plain count's result, opens to the job's rankings and says on every sheet what the plain count says
+  pub record IsWritten (job : Job) (s : List ℕ) (plain : Result) : Type 0 where
+    pub heads : header s ≡ headerOf hash job
+    pub accepts : checkBoard hash s ≡ accepted (plain .rounds) (plain .order) (plain .winner)
+    pub opens : Opens s (rankingOf job) (plain .rounds)
+    pub is-plain : IsPlain s (plain .rounds) (plain .order) (plain .winner) plain
+    -- the writer's result, where the output has room
+    pub measured : length s ≡ boardLength job
+    pub replies : (room : ℕ) → length s ≤ room → writeOutcome hash job room ≡ boardWritten (length s) (plain .rounds) (plain .order) (plain .winner)
+
+  pub record ThirdDemand : Type 0 where
+    -- "an accepted board whose matrices open to rankings and struck rows has the plain instant-runoff count's rounds, counts, order and winner"
+    pub accepted-boards : (s : List ℕ) (rounds : ℕ) (order : List ℕ) (winner : ℕ) (rankings : ℕ → List ℕ) →
+        checkBoard hash s ≡ accepted rounds order winner →
+        Opens s rankings rounds →
+        IsPlain s rounds order winner (plainCount (header s .n) (table (header s .K) rankings))
+    -- "every board written by the rules from 1 to 1,000 rankings of 2 to 8 processes, in any valid group with any valid draws, is accepted with that count"
+    pub written-boards : (job : Job) → Valid job → IsWritten job (board hash job) (plainResult job)

@@ -1,0 +1,68 @@
+-- The starred cases of "Tried by hand", each said of the definitions, in one table: with p = 23, q = 11, g0 = 2 and g1 = 3.
+use Prim.Native.Nat.{ℕ, suc, _-_, _≤_, _<_}
+use mathlib.Core.Path.{_≡_}
+use mathlib.Core.Bool.{true, false}
+use mathlib.Core.List.{List, [], _∷_}
+use lib.ListN.{length, replicate}
+use Rattle.sha256.specs.Message.{sha256}
+use Rattle.group.specs.Arithmetic.{mulMod, powMod}
+use Rattle.group.specs.Elements.{Parameters}
+use Rattle.rules.specs.Group.{paired, derived}
+use Rattle.rules.specs.Proofs.{statementHolds}
+use Rattle.rules.specs.Count.{Standing, roundOf, start, member, countOf, leaves, closes, plainCount}
+use Rattle.rules.specs.Check.{accepted, checkBoard}
+use Rattle.rules.specs.Openings.{Opening, without}
+use Rattle.jobs.specs.Job.{Job, needed}
+use Rattle.jobs.specs.Board.{board}
+use Rattle.whole.specs.ThirdDemand.{Valid}
+
+abbrev pub small : Parameters
+small = record { p = 23; q = 11; g0 = 2; g1 = 3 }
+
+-- "x and v give (b, y)", and that pair opens to them
+pub record Pair (x v b y : ℕ) : Type 0 where
+  pub first : paired small x v ≡ b
+  pub second : powMod 23 3 x ≡ y
+  pub opens : Opening small b y x v
+
+-- a job of the rankings (1,2,3), (2,3,1), (3,1,2)
+abbrev pub circle : (p q g0 counter : ℕ) (label draws : List ℕ) → Job
+circle p q g0 counter label draws =
+    record { n = 3; K = 3; p = p; q = q; g0 = g0; counter = counter; label = label; rankings = 1 ∷ 2 ∷ 3 ∷ 2 ∷ 3 ∷ 1 ∷ 3 ∷ 1 ∷ 2 ∷ []; draws = draws }
+
+-- one in the small group: SHA-256 makes g1 = 3 of a label of 32 zeros and counter 1
+abbrev pub smallJob : Job
+smallJob = circle 23 11 2 1 (replicate 32 0) (replicate 222 5)
+
+-- "2,534 bytes, 222 draws", and the verdict that boardcheck prints
+pub record Circle (hash : List ℕ → List ℕ) (job : Job) : Type 0 where
+  pub size : length (board hash job) ≡ 2534
+  pub draws : needed job ≡ 222
+  pub verdict : checkBoard hash (board hash job) ≡ accepted 2 (3 ∷ []) 1
+
+pub record Worked : Type 0 where
+  -- "x = 5, v = 1 gives (4, 13)", "x = 5, v = 0 gives (9, 13)", "x = 7, v = 1 gives (16, 2)"
+  pub five-one : Pair 5 1 4 13
+  pub five-zero : Pair 5 0 9 13
+  pub seven-one : Pair 7 1 16 2
+  -- "(4, 13) times (16, 2) is (18, 3): count 2, s 1"
+  pub product : (mulMod 23 4 16 ≡ 18) × (mulMod 23 13 2 ≡ 3)
+  pub product-tally : Pair 1 2 18 3
+  -- "(9, 13) with t1 16, t2 12, e 3, r 8 meets both equations of a statement", "with r 7 it does not"
+  pub met : statementHolds 23 2 3 (record { left = 9; right = 13 }) 16 12 3 8 ≡ true
+  pub unmet : statementHolds 23 2 3 (record { left = 9; right = 13 }) 16 12 3 7 ≡ false
+  -- "Counts 8, 17, 16, 19 of 60: 1 goes out"
+  pub goes-out : (closes 4 start (8 ∷ 17 ∷ 16 ∷ 19 ∷ []) 60 ≡ false) × (leaves 4 start (8 ∷ 17 ∷ 16 ∷ 19 ∷ []) ≡ 1)
+  -- "Before round n−1, 30 of 60 does not close, 31 does", whoever has gone out
+  pub half : (n : ℕ) (st : Standing) (counts : List ℕ) → roundOf st < n - 1 → ((i : ℕ) → i < n → countOf counts (suc i) ≤ 30) → closes n st counts 60 ≡ false
+  pub more : (n i : ℕ) (st : Standing) (counts : List ℕ) → i < n → member (suc i) (st .gone) ≡ false → countOf counts (suc i) ≡ 31 → closes n st counts 60 ≡ true
+  -- "Ranking (4, 2, 1, 3) without 4, then 1, is (2, 3)"
+  pub struck : without 1 (without 4 (4 ∷ 2 ∷ 1 ∷ 3 ∷ [])) ≡ 2 ∷ 3 ∷ []
+  -- "n = 2, one ballot each way: closes in round 1, winner 1"
+  pub each-way : plainCount 2 ((1 ∷ 2 ∷ []) ∷ (2 ∷ 1 ∷ []) ∷ []) ≡ record { rounds = 1; counts = (1 ∷ 1 ∷ []) ∷ []; order = []; winner = 1 }
+  -- "Rankings (1,2,3), (2,3,1), (3,1,2)", in any valid group, and in the small one
+  pub around : (hash : List ℕ → List ℕ) (p q g0 counter : ℕ) (label draws : List ℕ) →
+      Valid hash (circle p q g0 counter label draws) → Circle hash (circle p q g0 counter label draws)
+  pub made : derived sha256 (replicate 32 0) 23 11 2 1 ≡ 3
+  pub small-valid : Valid sha256 smallJob
+  pub small-around : Circle sha256 smallJob
