@@ -91,13 +91,11 @@ module _ (hash : List ℕ → List ℕ) (job : Job) (g : Parameters) where
 
   -- ballot k's record in round m
   unfoldable pub recordBytes : (before : List ℕ) (a m k : ℕ) → List ℕ
-  unfolding ballotBytes shiftBytes
   recordBytes before a zero k = ballotBytes k
   recordBytes before a (suc m) k = shiftBytes before a m k
 
   -- the ballots or shifts of round m, its sheet, and the rounds after it; before are those gone out before the last, a the last
   unfoldable pub roundsFrom : (fuel : ℕ) → Standing → (m : ℕ) (before : List ℕ) (a : ℕ) → List ℕ
-  unfolding recordBytes sheetBytes countsOf closes lowest
   roundsFrom zero st m before a = []
   roundsFrom (suc fuel) st m before a =
       let counts = countsOf (job .n) (table (job .K) (rankingOf job)) (st .gone) in
@@ -113,7 +111,6 @@ module _ (hash : List ℕ → List ℕ) (job : Job) (g : Parameters) where
       HD ++ (job .n ∷ []) ++ bytes2 (job .K) ++ bytes4 (g .p) ++ bytes4 (g .q) ++ bytes4 (g .g0) ++ (job .counter ∷ []) ++ bytes4 (g .g1) ++ job .label
 
   unfoldable pub boardBytes : List ℕ
-  unfolding roundsFrom
   boardBytes = headerBytes ++ roundsFrom (job .n) start 0 [] 0
 
 unfoldable pub board : (hash : List ℕ → List ℕ) → Job → List ℕ

@@ -39,7 +39,6 @@ drawsAt n K m k = roundDraws n K m + k * recordDraws n m
 
 -- those of a ranking that are still in
 unfoldable pub standing : (gone ranking : List ℕ) → List ℕ
-unfolding member
 standing gone [] = []
 standing gone (c ∷ cs) = cond (member c gone) (standing gone cs) (c ∷ standing gone cs)
 

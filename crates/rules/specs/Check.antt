@@ -191,7 +191,6 @@ module _ (hash : List ℕ → List ℕ) (s : List ℕ) where
 
     -- one round: its K records, its sheet, and what comes after
     unfoldable pub roundVerdict : Standing → (m a : ℕ) → (after : Verdict) → Verdict
-    unfolding faultBelow recordFault sheetFault counts closes lowest highest
     roundVerdict st m a after =
         elim (faultBelow (h .K) (recordFault a m)) [
           | some w ↦ refused (w .1) (recordNumber (h .K) m (w .0))
@@ -203,12 +202,10 @@ module _ (hash : List ℕ → List ℕ) (s : List ℕ) where
 
     -- from round m on; a went out in the round before. Fuel bounds the rounds, and its end is no board's answer (`whole`, Refusals).
     unfoldable pub checkFrom : (fuel : ℕ) → Standing → (m a : ℕ) → Verdict
-    unfolding roundVerdict
     checkFrom zero st m a = refused 0 0
     checkFrom (suc fuel) st m a =
         roundVerdict st m a (checkFrom fuel (next (h .n) st (counts s h m)) (suc m) (leaves (h .n) st (counts s h m)))
 
   -- "Records are taken in order"
   unfoldable pub checkBoard : Verdict
-  unfolding headerFault checkFrom
   checkBoard = cond (eqb headerFault 0) (checkFrom (header s) (header s .n) start 0 0) (refused headerFault 0)

@@ -17,7 +17,7 @@ table (suc k) f = table k f ++ (f k ∷ [])
 
 -- "A ranking lists the n numbers, best first."
 unfoldable pub isRanking : (n : ℕ) → List ℕ → Bool
-unfolding member allBelow
+unfolding member
 isRanking n r = eqb (length r) n && allBelow n (λ i. member (suc i) r)
 
 -- the count of process c among the counts of a round
@@ -44,7 +44,6 @@ stillIn n gone c = leb 1 c && leb c n && not (member c gone)
 module _ (st : Standing) (counts : List ℕ) where
   -- among 1 .. i "the process still in with the lowest count, highest number among equals"; 0 where none is in
   unfoldable pub lowest : (i : ℕ) → ℕ
-  unfolding member
   lowest zero = 0
   lowest (suc i) =
       cond (member (suc i) (st .gone)) (lowest i)
@@ -52,7 +51,6 @@ module _ (st : Standing) (counts : List ℕ) where
 
   -- "the process still in with the highest count, lowest number among equals"
   unfoldable pub highest : (i : ℕ) → ℕ
-  unfolding member
   highest zero = 0
   highest (suc i) =
       cond (member (suc i) (st .gone)) (highest i)
@@ -81,7 +79,7 @@ module _ (n : ℕ) (st : Standing) (counts : List ℕ) where
 
 -- "each ranking counts one for the first process on it that is still in"; 0 where there is none
 unfoldable pub firstIn : (n : ℕ) (gone ranking : List ℕ) → ℕ
-unfolding stillIn member
+unfolding stillIn
 firstIn n gone [] = 0
 firstIn n gone (c ∷ cs) = cond (stillIn n gone c) c (firstIn n gone cs)
 

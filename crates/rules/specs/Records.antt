@@ -49,7 +49,6 @@ roundAt n K (suc m) = roundAt n K m + K * recordLength n m + sheetLength n
 
 -- where the record of ballot k in round m starts; that of k = K is the sheet
 unfoldable pub recordAt : (n K m k : ℕ) → ℕ
-unfolding roundAt recordLength
 recordAt n K m k = roundAt n K m + k * recordLength n m
 
 -- "Records are taken in order, numbered from 0."
