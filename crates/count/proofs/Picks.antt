@@ -1,0 +1,84 @@
+-- The lowest, the highest and the majority, one process at a time. Assumes nothing.
+use Prim.Native.Nat.{ℕ, suc, _+_, _-_, _≤_, _<_}
+use mathlib.Core.Path.{_≡_, refl, sym, _∙_}
+use mathlib.Core.Bool.{Bool, true, false, cond, _||_}
+use mathlib.Core.List.{List, map-append}
+use native.Mathlib.Numerals.{add-one}
+use native.Mathlib.Omega.{arith}
+use lib.Dec.{eqb, leb, ltb}
+use lib.ListN.{length, getD, take, drop, set, replicate, length-map, length-set}
+use lib.Seq.{getD-take, length-take-le, take-suc-set, drop-set-lt, drop-drop}
+use Rattle.rules.specs.Count.{Standing, member, lowest, highest, countOf, leaves, next}
+use Rattle.count.specs.State.{lower, higher, passes, countsOn, listOf, standingOf, Kept}
+use Rattle.count.specs.declared.Count.{Count}
+use Rattle.count.specs.declared.Sheet.{Sheet}
+
+small : (a b : Bool) (best i : ℕ) → best ≤ i → cond a best (cond b (i + 1) best) ≤ i + 1
+small true b best i h = omega arith
+small false true best i h = omega arith
+small false false best i h = omega arith
+
+pub lower-small : (out : Bool) (best i : ℕ) (counts : List ℕ) → best ≤ i → lower out best i counts ≤ i + 1
+lower-small out best i counts = small out (eqb best 0 || leb (getD counts i 0) (getD counts (best - 1) 0)) best i
+
+pub higher-small : (out : Bool) (best i : ℕ) (counts : List ℕ) → best ≤ i → higher out best i counts ≤ i + 1
+higher-small out best i counts = small out (eqb best 0 || ltb (getD counts (best - 1) 0) (getD counts i 0)) best i
+
+module _ (n : ℕ) (arr : List ℕ) (i : ℕ) (h : i < n) where
+  this-count : countOf (take n arr) (suc i) ≡ getD arr i 0
+  this-count = let e : suc i - 1 ≡ i = omega arith in rw e (getD-take n arr i 0 h)
+
+  that-count : (best : ℕ) → best ≤ i → countOf (take n arr) best ≡ getD arr (best - 1) 0
+  that-count best b = getD-take n arr (best - 1) 0 (omega arith)
+
+module _ (n : ℕ) (st : Standing) (arr : List ℕ) (i : ℕ) (h : i < n) where
+  pub lowest-more : (best : ℕ) → best ≤ i → best ≡ lowest st (take n arr) i →
+      lower (member (i + 1) (st .gone)) best i arr ≡ lowest st (take n arr) (i + 1)
+  unfolding lowest
+  lowest-more best b e = rw (add-one i, ← e, this-count n arr i h, that-count n arr i h best b)
+
+  pub highest-more : (best : ℕ) → best ≤ i → best ≡ highest st (take n arr) i →
+      higher (member (i + 1) (st .gone)) best i arr ≡ highest st (take n arr) (i + 1)
+  unfolding highest
+  highest-more best b e = rw (add-one i, ← e, this-count n arr i h, that-count n arr i h best b)
+
+module _ (n : ℕ) (gone : List ℕ) (arr : List ℕ) (i : ℕ) (h : i < n) where
+  pub passes-is : (K : ℕ) → passes (member (i + 1) gone) (getD arr i 0) K ≡ passes (member (suc i) gone) (countOf (take n arr) (suc i)) K
+  passes-is K = rw (add-one i, this-count n arr i h)
+
+-- the counts and the gone of a count's state
+pub gone-is : (n : ℕ) (c : Count) → standingOf n c .gone ≡ listOf (c .gone)
+unfolding standingOf
+gone-is n c = refl
+
+pub sheets-many : (n : ℕ) (c : Count) → Kept c → length (standingOf n c .sheets) ≡ c .gone .outs
+unfolding standingOf
+sheets-many n c k = length-map (take (c .gone .outs) (c .sheets)) (countsOn n) ∙ length-take-le (c .gone .outs) (c .sheets) (omega arith)
+
+-- one more gone out, with the sheet of its round
+zeros-next : (l : List ℕ) (k x : ℕ) → k < 8 → drop k l ≡ replicate (8 - k) 0 → drop (k + 1) (set l k x) ≡ replicate (8 - (k + 1)) 0
+zeros-next l k x h e =
+    let m : 8 - k ≡ suc (8 - (k + 1)) = omega arith in
+    drop-set-lt (k + 1) l k x (omega arith) ∙ sym (drop-drop 1 k l) ∙ rw (e, m)
+
+module _ (n : ℕ) (c : Count) (t : Sheet) (x : ℕ) (k : Kept c) (h : c .gone .outs < 8) where
+  abbrev after : Count
+  after = record { gone = record { outs = c .gone .outs + 1; order = set (c .gone .order) (c .gone .outs) x }; sheets = set (c .sheets) (c .gone .outs) t }
+
+  pub kept-next : Kept after
+  kept-next =
+      record {
+        listed = record { few = omega arith; order-long = simp length-set (k .listed .order-long); zeros = zeros-next (c .gone .order) (c .gone .outs) x h (k .listed .zeros) };
+        sheets-long = simp length-set (k .sheets-long);
+      }
+
+  pub standing-next : x ≡ leaves n (standingOf n c) (countsOn n t) → standingOf n after ≡ next n (standingOf n c) (countsOn n t)
+  unfolding standingOf
+  standing-next e =
+      rw (
+        add-one (c .gone .outs),
+        take-suc-set (c .gone .order) (c .gone .outs) x (omega arith),
+        take-suc-set (c .sheets) (c .gone .outs) t (omega arith),
+        map-append (countsOn n),
+        e,
+      )

@@ -1,0 +1,43 @@
+-- What the code's standing count stands for in the rules.
+use Prim.Native.Nat.{ℕ, _+_, _*_, _-_, _≤_}
+use mathlib.Core.Path.{_≡_}
+use mathlib.Core.List.{List, map}
+use mathlib.Core.Bool.{Bool, cond, not, _&&_, _||_}
+use lib.Dec.{eqb, leb, ltb}
+use lib.ListN.{length, getD, take, drop, replicate}
+use Rattle.rules.specs.Count.{Standing}
+use Rattle.count.specs.declared.Sheet.{Sheet}
+use Rattle.count.specs.declared.Gone.{Gone}
+use Rattle.count.specs.declared.Count.{Count}
+
+-- the counts of n processes
+abbrev pub countsOn : (n : ℕ) → Sheet → List ℕ
+countsOn n t = take n (t .counts)
+
+-- those gone out, in order
+abbrev pub listOf : Gone → List ℕ
+listOf g = take (g .outs) (g .order)
+
+-- and the counts of as many rounds
+unfoldable pub standingOf : (n : ℕ) → Count → Standing
+standingOf n c = record { gone = listOf (c .gone); sheets = map (countsOn n) (take (c .gone .outs) (c .sheets)) }
+
+-- room for 8; past those gone out there are zeros
+pub record Listed (g : Gone) : Type 0 where
+  pub few : g .outs ≤ 8
+  pub order-long : length (g .order) ≡ 8
+  pub zeros : drop (g .outs) (g .order) ≡ replicate (8 - g .outs) 0
+
+pub record Kept (c : Count) : Type 0 where
+  pub listed : Listed (c .gone)
+  pub sheets-long : length (c .sheets) ≡ 8
+
+-- the pick among the first i + 1, from the pick among the first i
+abbrev pub lower : (out : Bool) (best i : ℕ) (counts : List ℕ) → ℕ
+lower out best i counts = cond out best (cond (eqb best 0 || leb (getD counts i 0) (getD counts (best - 1) 0)) (i + 1) best)
+
+abbrev pub higher : (out : Bool) (best i : ℕ) (counts : List ℕ) → ℕ
+higher out best i counts = cond out best (cond (eqb best 0 || ltb (getD counts (best - 1) 0) (getD counts i 0)) (i + 1) best)
+
+abbrev pub passes : (out : Bool) (votes K : ℕ) → Bool
+passes out votes K = not out && ltb K (2 * votes)

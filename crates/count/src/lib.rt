@@ -1,0 +1,192 @@
+// The standing count by value: each sheet takes it and hands back the next.
+ghost use mathlib.Core.Path.{_≡_};
+ghost use Prim.Native.Nat.{ℕ, _+_, _*_, _≤_, _<_};
+ghost use lib.ListN.{take};
+ghost use Rattle.rules.specs.Count.{member, start, next, leaves, wins, closes, majority};
+ghost use Rattle.count.specs.State.{countsOn, listOf, standingOf, Listed, Kept, lower, higher, passes};
+
+// The counts of a round, by process.
+pub struct Sheet {
+    pub counts: [u32; 8],
+}
+
+// How many have gone out, and who, in order, with zeros up to 8.
+pub struct Gone {
+    pub outs: usize,
+    pub order: [u8; 8],
+}
+
+// Those gone out, and the sheets of as many rounds.
+pub struct Count {
+    pub gone: Gone,
+    pub sheets: [Sheet; 8],
+}
+
+fn wide(x: u8) -> usize
+    ensures { λ r. ⌜ r ≡ x ⌝ }
+{
+    x as usize
+}
+
+fn wide64(x: u32) -> u64
+    ensures { λ r. ⌜ (r ≡ x) × (r < 4294967296) ⌝ }
+{
+    x as u64
+}
+
+// The pick of leaves among the first i + 1 processes, from the one among the first i; out: whether process i + 1 has gone out.
+fn lower(out: bool, best: usize, i: usize, sheet: Sheet) -> usize
+    requires { ⌜ (i < 8) × (best ≤ 8) ⌝ }
+    ensures { λ r. ⌜ r ≡ lower out best i (sheet .counts) ⌝ }
+{
+    let counts = sheet.counts;
+    if out {
+        return best;
+    }
+    if best == 0 {
+        return i + 1;
+    }
+    let this = counts[i];
+    let that = counts[best - 1];
+    if this <= that {
+        return i + 1;
+    }
+    best
+}
+
+// The same for the pick of wins.
+fn higher(out: bool, best: usize, i: usize, sheet: Sheet) -> usize
+    requires { ⌜ (i < 8) × (best ≤ 8) ⌝ }
+    ensures { λ r. ⌜ r ≡ higher out best i (sheet .counts) ⌝ }
+{
+    let counts = sheet.counts;
+    if out {
+        return best;
+    }
+    if best == 0 {
+        return i + 1;
+    }
+    let this = counts[i];
+    let that = counts[best - 1];
+    if that < this {
+        return i + 1;
+    }
+    best
+}
+
+// Whether a process is still in and has more than half of k votes.
+fn passes(out: bool, votes: u32, k: u32) -> bool
+    ensures { λ r. ⌜ r ≡ passes out votes k ⌝ }
+{
+    if out {
+        return false;
+    }
+    wide64(k) < 2 * wide64(votes)
+}
+
+impl Gone {
+    // Whether process c has gone out.
+    pub fn is_out(self, c: usize) -> bool
+        requires { ⌜ Listed self ⌝ }
+        ensures { λ r. ⌜ r ≡ member c (listOf self) ⌝ }
+    {
+        let order = self.order;
+        let outs = self.outs;
+        for i in 0..outs {
+            if wide(order[i]) == c {
+                return true;
+            }
+        }
+        false
+    }
+}
+
+impl Count {
+    // None has gone out yet.
+    pub fn new() -> Count
+        ensures { λ r. ⌜ (r .gone .outs ≡ 0) × Kept r × ((n : ℕ) → standingOf n r ≡ start) ⌝ }
+    {
+        Count {
+            gone: Gone {
+                outs: 0,
+                order: [0u8; 8],
+            },
+            sheets: [Sheet { counts: [0u32; 8] }; 8],
+        }
+    }
+
+    // The process still in with the lowest count, highest number among equals; 0 where none is in.
+    pub fn leaves(self, sheet: Sheet, n: usize) -> usize
+        requires { ⌜ Kept self × (n ≤ 8) ⌝ }
+        ensures { λ r. ⌜ (r ≡ leaves n (standingOf n self) (countsOn n sheet)) × (r ≤ n) ⌝ }
+    {
+        let gone = self.gone;
+        let given = sheet;
+        let mut best = 0;
+        for i in 0..n {
+            best = lower(gone.is_out(i + 1), best, i, given);
+        }
+        best
+    }
+
+    // The process still in with the highest count, lowest number among equals; 0 where none is in.
+    pub fn wins(self, sheet: Sheet, n: usize) -> usize
+        requires { ⌜ Kept self × (n ≤ 8) ⌝ }
+        ensures { λ r. ⌜ (r ≡ wins n (standingOf n self) (countsOn n sheet)) × (r ≤ n) ⌝ }
+    {
+        let gone = self.gone;
+        let given = sheet;
+        let mut best = 0;
+        for i in 0..n {
+            best = higher(gone.is_out(i + 1), best, i, given);
+        }
+        best
+    }
+
+    // A process still in has more than half.
+    fn majority(self, sheet: Sheet, n: usize, k: u32) -> bool
+        requires { ⌜ Kept self × (n ≤ 8) ⌝ }
+        ensures { λ r. ⌜ r ≡ majority n (standingOf n self) (countsOn n sheet) k ⌝ }
+    {
+        let gone = self.gone;
+        let counts = sheet.counts;
+        for i in 0..n {
+            if passes(gone.is_out(i + 1), counts[i], k) {
+                return true;
+            }
+        }
+        false
+    }
+
+    // The round with these counts is the last.
+    pub fn closes(self, sheet: Sheet, n: usize, k: u32) -> bool
+        requires { ⌜ Kept self × (2 ≤ n) × (n ≤ 8) ⌝ }
+        ensures { λ r. ⌜ r ≡ closes n (standingOf n self) (countsOn n sheet) k ⌝ }
+    {
+        if self.gone.outs + 1 == n - 1 {
+            return true;
+        }
+        self.majority(sheet, n, k)
+    }
+
+    // The next standing count: the sheet is kept, and the process that leaves has gone out.
+    pub fn sheet(self, sheet: Sheet, n: usize) -> Count
+        requires { ⌜ Kept self × (self .gone .outs < 8) × (n ≤ 8) ⌝ }
+        ensures { λ r. ⌜ (r .gone .outs ≡ self .gone .outs + 1) × Kept r × (standingOf n r ≡ next n (standingOf n self) (countsOn n sheet)) ⌝ }
+    {
+        let out = self.leaves(sheet, n);
+        let gone = self.gone;
+        let at = gone.outs;
+        let mut order = gone.order;
+        let mut sheets = self.sheets;
+        order[at] = out as u8;
+        sheets[at] = sheet;
+        Count {
+            gone: Gone {
+                outs: at + 1,
+                order,
+            },
+            sheets,
+        }
+    }
+}

@@ -1,0 +1,27 @@
+-- A field's answer: its value and the place after it, or nothing where its test fails.
+use Prim.Native.Nat.{ℕ, _+_}
+use mathlib.Core.List.{List}
+use mathlib.Core.Bool.{Bool, true, false}
+use lib.Dec.{ltb}
+use Rattle.group.specs.Elements.{isElement}
+use Rattle.rules.specs.Bytes.{word}
+use Rattle.fields.specs.declared.ElementField.{ElementField}
+use Rattle.fields.specs.declared.ElementField.the-variants as E
+use Rattle.fields.specs.declared.ExponentField.{ExponentField}
+use Rattle.fields.specs.declared.ExponentField.the-variants as X
+
+abbrev pub elementIf : Bool → (x next : ℕ) → ElementField
+elementIf true x next = E.Value (record { 0 = x }) next
+elementIf false x next = E.Refused
+
+abbrev pub exponentIf : Bool → (x next : ℕ) → ExponentField
+exponentIf true x next = X.Value (record { 0 = x }) next
+exponentIf false x next = X.Refused
+
+-- an element of the group at a place
+abbrev pub elementAt : (s : List ℕ) (at p q : ℕ) → ElementField
+elementAt s at p q = elementIf (isElement p q (word s at)) (word s at) (at + 4)
+
+-- a number below q at a place
+abbrev pub exponentAt : (s : List ℕ) (at q : ℕ) → ExponentField
+exponentAt s at q = exponentIf (ltb (word s at) q) (word s at) (at + 4)

@@ -1,0 +1,113 @@
+// The fields of a record: numbers of 2 and 4 bytes, high byte first; elements and exponents, tested as they are read; products of words.
+use group::Element;
+use group::Exponent;
+ghost use mathlib.Core.Path.{_≡_};
+ghost use Prim.Native.Nat.{ℕ, _+_, _*_, _%_, _≤_, _<_};
+ghost use lib.ListN.{length};
+ghost use Rattle.numbers.specs.Below.{prodBelow};
+ghost use Rattle.rules.specs.Bytes.{half, word};
+ghost use Rattle.rules.specs.Claims.{besides};
+ghost use Rattle.fields.specs.Answers.{elementAt, exponentAt};
+
+// What reading an element finds: it and the place after it, or that the number is no element.
+pub enum ElementField {
+    Value(Element, usize),
+    Refused,
+}
+
+// What reading an exponent finds: it and the place after it, or that the number is not below q.
+pub enum ExponentField {
+    Value(Exponent, usize),
+    Refused,
+}
+
+fn wide(x: u8) -> u32
+    ensures { λ r. ⌜ (r ≡ x) × (r < 256) ⌝ }
+{
+    x as u32
+}
+
+pub fn half(s: &[u8], at: usize) -> u32
+    requires { ⌜ at + 2 ≤ length (now s) ⌝ }
+    ensures { λ r. ⌜ r ≡ half (now (s .entry)) at ⌝ }
+{
+    wide(s[at]) * 256 + wide(s[at + 1])
+}
+
+pub fn word(s: &[u8], at: usize) -> u32
+    requires { ⌜ at + 4 ≤ length (now s) ⌝ }
+    ensures { λ r. ⌜ r ≡ word (now (s .entry)) at ⌝ }
+{
+    wide(s[at]) * 16777216 + wide(s[at + 1]) * 65536 + wide(s[at + 2]) * 256 + wide(s[at + 3])
+}
+
+pub fn element(s: &[u8], at: usize, p: u32, q: u32) -> ElementField
+    requires { ⌜ at + 4 ≤ length (now s) ⌝ }
+    ensures { λ r. ⌜ r ≡ elementAt (now (s .entry)) at p q ⌝ }
+{
+    let x = Element(word(s, at));
+    if group::is_element(p, q, x) {
+        ElementField::Value(x, at + 4)
+    } else {
+        ElementField::Refused
+    }
+}
+
+pub fn exponent(s: &[u8], at: usize, q: u32) -> ExponentField
+    requires { ⌜ at + 4 ≤ length (now s) ⌝ }
+    ensures { λ r. ⌜ r ≡ exponentAt (now (s .entry)) at q ⌝ }
+{
+    let x = word(s, at);
+    if x < q {
+        ExponentField::Value(Exponent(x), at + 4)
+    } else {
+        ExponentField::Refused
+    }
+}
+
+// The number at a place, taken as an element without a test.
+pub fn as_element(s: &[u8], at: usize) -> Element
+    requires { ⌜ at + 4 ≤ length (now s) ⌝ }
+    ensures { λ r. ⌜ r .0 ≡ word (now (s .entry)) at ⌝ }
+{
+    Element(word(s, at))
+}
+
+// The number at a place, taken as an exponent without a test.
+pub fn as_exponent(s: &[u8], at: usize) -> Exponent
+    requires { ⌜ at + 4 ≤ length (now s) ⌝ }
+    ensures { λ r. ⌜ r .0 ≡ word (now (s .entry)) at ⌝ }
+{
+    Exponent(word(s, at))
+}
+
+// The product modulo p of count words, stride bytes apart, but for the one numbered out.
+pub fn product_besides(
+    s: &[u8],
+    p: u32,
+    at: usize,
+    stride: usize,
+    count: usize,
+    out: usize,
+) -> Element
+    requires { ⌜ 0 < p ⌝ }
+    requires { ⌜ ((j : ℕ) → j < count → at + stride * j + 4 ≤ length (now s)) ⌝ }
+    ensures { λ r. ⌜ r .0 ≡ prodBelow count (besides out (λ j. word (now (s .entry)) (at + stride * j))) % p ⌝ }
+{
+    let mut r = Element(1 % p);
+    for j in 0..count {
+        if j != out {
+            r = group::mul(p, r, as_element(s, at + stride * j));
+        }
+    }
+    r
+}
+
+// The product of all of them.
+pub fn product(s: &[u8], p: u32, at: usize, stride: usize, count: usize) -> Element
+    requires { ⌜ 0 < p ⌝ }
+    requires { ⌜ ((j : ℕ) → j < count → at + stride * j + 4 ≤ length (now s)) ⌝ }
+    ensures { λ r. ⌜ r .0 ≡ prodBelow count (λ j. word (now (s .entry)) (at + stride * j)) % p ⌝ }
+{
+    product_besides(s, p, at, stride, count, count)
+}

@@ -1,0 +1,183 @@
+use denote.Ref.{now}
+use Prim.Native.Nat.{ℕ, _+_, _*_, _-_, _%_, _≤_, _<_, _^_}
+use mathlib.Core.Path.{_≡_, refl, sym, _∙_, ap}
+use mathlib.Core.Logic.{⊎-elim}
+use mathlib.Core.Bool.{true, false, true≢false}
+use mathlib.Core.List.{List, _++_}
+use native.Mathlib.Nat.{zero-mod}
+use native.Mathlib.Omega.{arith}
+use borrow.Author.Needs.{needs}
+use borrow.Author.Tests.{not-true, not-false}
+use lib.ListN.{length}
+use Rattle.numbers.specs.Below.{allBelow, sumBelow, blocks}
+use Rattle.numbers.proofs.Tests.{all-none, all-more, all-end}
+use Rattle.sha256.specs.Feed.{Fed}
+use Rattle.sha256.specs.Message.{sha256}
+use Rattle.group.specs.Elements.{parametersOf}
+use Rattle.rules.specs.Bytes.{long}
+use Rattle.rules.specs.Proofs.{proofHolds, branchAt, statementAt}
+use Rattle.statements.specs.Claims.{claimOf}
+use Rattle.statements.proofs.Branches.{here, branchHere, piece, pieces, challenges, within, branch-within, nothing-more, sum-more, fails-there, sums-up, fed-more, fed-branch}
+use Rattle.statements.proofs.proof.proof_holds.Statement.{statement}
+use Rattle.statements.proofs.proof.proof_holds.Tie as tie
+
+abbrev Inv-statements : tie.InvT-statements
+Inv-statements board label inverses at branches statements n known asked h₀ sum ok₀ l from e i₀ h ok i =
+    (i ≤ statements) × (ok ≡ true)
+    × (allBelow i (here board (parametersOf (known .group)) (claimOf board (parametersOf (known .group)) n asked) at statements l) ≡ true)
+    × Fed h ((label ++ blocks l (pieces board at statements)) ++ blocks i (piece board at statements l))
+
+abbrev μ-statements : tie.MeasureT-statements
+μ-statements board label inverses at branches statements n known asked h₀ sum ok₀ l from e i₀ h ok i = statements - i
+
+abbrev Inv-branches : tie.InvT-branches
+Inv-branches board label inverses at branches statements n known asked h₀ sum₀ ok₀ l₀ h sum ok l =
+    (l ≤ branches) × (ok ≡ true)
+    × (allBelow l (branchHere board (parametersOf (known .group)) (claimOf board (parametersOf (known .group)) n asked) at statements) ≡ true)
+    × (sum .0 ≡ sumBelow l (challenges board at statements) % known .group .q) × Fed h (label ++ blocks l (pieces board at statements))
+
+abbrev μ-branches : tie.MeasureT-branches
+μ-branches board label inverses at branches statements n known asked h₀ sum₀ ok₀ l₀ h sum ok l = branches - l
+
+branches-holds : tie.Need-branches-holds Inv-statements μ-statements Inv-branches μ-branches
+unfolding sumBelow
+branches-holds c =
+    let a = c .before .before .before .before .before .args in
+    (omega arith, refl, all-none _, sym (zero-mod (a .g .group .q)), rw nothing-more (c .update .ensures _ (c .before .new .ensures)))
+
+-- the branch is on the board, and so is the statement
+branch-fits : (c : tie.In-branches Inv-statements μ-statements Inv-branches μ-branches) →
+    let a = c .before .before .before .before .before .before .before .args in
+    (branchAt (a .at) (a .statements) (c .before .branches .l) + (4 + 12 * a .statements) ≤ length (now (a .board))) × (length (now (a .board)) < 2 ^ 64)
+branch-fits c =
+    let a = c .before .before .before .before .before .before .before .args in (
+      branch-within (a .at) (a .branches) (a .statements) (c .before .branches .l) (length (now (a .board))) (c .before .before .before .before .before .before .before .pre .1 .0) (c .branches-test .taken),
+      omega (arith, c .before .before .before .before .before .before .before .good),
+    )
+
+fits : (c : tie.In-statements Inv-statements μ-statements Inv-branches μ-branches) →
+    let a = c .before .before .before .before .before .before .before .before .before .before .before .args in
+    (statementAt (a .at) (a .statements) (c .before .before .before .before .before .branches .l) (c .before .statements .i) + 12 ≤ length (now (a .board))) × (length (now (a .board)) < 2 ^ 64)
+fits c =
+    let a = c .before .before .before .before .before .before .before .before .before .before .before .args in (
+      within (a .at) (a .branches) (a .statements) (c .before .before .before .before .before .branches .l) (c .before .statements .i) (length (now (a .board)))
+          (c .before .before .before .before .before .before .before .before .before .before .before .pre .1 .0) (c .before .before .before .before .branches-test .taken) (c .statements-test .taken),
+      omega (arith, c .before .before .before .before .before .before .before .before .before .before .before .good),
+    )
+
+statements-holds : tie.Need-statements-holds Inv-statements μ-statements Inv-branches μ-branches
+statements-holds c =
+    let o = c .before .before .before .branches in
+    (omega arith, o .inv .1, all-none _, rw nothing-more (o .inv .4))
+
+statement-at-requires : tie.Need-statement-at-requires Inv-statements μ-statements Inv-branches μ-branches
+statement-at-requires c κs =
+    let pre = c .before .before .before .before .before .before .before .before .before .before .before .pre in
+    (pre .0, (fits c .0, pre .1 .1 (c .before .before .before .before .before .branches .l) (c .before .statements .i) (c .before .before .before .before .branches-test .taken) (c .statements-test .taken)))
+
+-- what the callee says, at the statement's number
+this : (c : tie.After-statement-at Inv-statements μ-statements Inv-branches μ-branches) →
+    let a = c .before .before .before .before .before .before .before .before .before .before .before .before .args in
+    c .statement-at .result
+    ≡ here (now (a .board)) (parametersOf (a .g .group)) (claimOf (now (a .board)) (parametersOf (a .g .group)) (a .n) (a .claim)) (a .at) (a .statements)
+    (c .before .before .before .before .before .before .branches .l) (c .before .before .statements .i)
+this c = rw (← c .before .before .before .before .as-exponent .ensures) (c .statement-at .ensures)
+
+add-i : tie.Need-add-i Inv-statements μ-statements Inv-branches μ-branches
+add-i c = omega (arith, c .before .before .before .before .before .before .before .before .before .before .before .before .before .before .before .fits .statements, c .before .before .before .before .statements-test .taken)
+
+statements-again : tie.Need-statements-again Inv-statements μ-statements Inv-branches μ-branches
+statements-again c =
+    let a = c .before .before .before .before .before .before .before .before .before .before .before .before .before .before .before .args in
+    let o = c .before .before .before .before .before .before .before .before .before .branches in
+    let t = c .before .before .before .before .before .statements in (
+      omega (arith, c .before .before .before .before .statements-test .taken),
+      t .inv .1,
+      all-more _ _ (t .inv .2) (sym (this (c .before .before .before)) ∙ not-false _ (c .before .before .if1 .left)),
+      fed-more (c .update2 .result) (now (a .label) ++ blocks (o .l) (pieces (now (a .board)) (a .at) (a .statements))) (now (a .board)) (a .at)
+          (a .statements) (o .l) (t .i) (c .update2 .ensures _ (t .inv .3)),
+    )
+
+branches-again : tie.Need-branches-again Inv-statements μ-statements Inv-branches μ-branches
+branches-again c =
+    let a = c .before .before .before .before .before .before .before .before .before .before .before .args in
+    let o = c .before .before .before .before .before .branches in
+    let t = c .before .statements in
+    let e : t .i ≡ a .statements = omega arith in (
+      omega arith,
+      t .inv .1,
+      all-more _ _ (o .inv .2) (all-end _ _ _ (t .inv .0) (c .statements-test .left) (t .inv .2)),
+      sum-more (a .g .group .q) _ _ _ (o .l) (challenges (now (a .board)) (a .at) (a .statements)) (o .inv .3)
+          (c .before .before .before .as-exponent .ensures) (c .before .before .add .ensures),
+      fed-branch (t .h) (now (a .label)) (now (a .board)) (a .at) (a .statements) (o .l) (t .i) e (t .inv .3),
+    )
+
+-- what holds where the loops end without a failing statement
+record Done (c : tie.Left-branches Inv-statements μ-statements Inv-branches μ-branches) : Type 0 where
+  pub all :
+      let a = c .before .before .before .before .before .before .before .args in
+      allBelow (a .branches) (branchHere (now (a .board)) (parametersOf (a .g .group)) (claimOf (now (a .board)) (parametersOf (a .g .group)) (a .n) (a .claim)) (a .at) (a .statements))
+      ≡ true
+  pub sum :
+      let a = c .before .before .before .before .before .before .before .args in
+      c .branches-test .sum .0 ≡ sumBelow (a .branches) (challenges (now (a .board)) (a .at) (a .statements)) % a .g .group .q
+  pub fed :
+      let a = c .before .before .before .before .before .before .before .args in
+      Fed (c .branches-test .h) (now (a .label) ++ blocks (a .branches) (pieces (now (a .board)) (a .at) (a .statements)))
+
+-- where the ways out of the loops meet
+after : (c : tie.Left-branches Inv-statements μ-statements Inv-branches μ-branches) →
+    let a = c .before .before .before .before .before .before .before .args in
+    (c .branches-test .ok ≡ true → Done c)
+    × (c .branches-test .ok ≡ false →
+    false ≡ proofHolds (now (a .board)) (a .at) (a .branches) (a .statements) sha256 (now (a .label)) (parametersOf (a .g .group))
+    (claimOf (now (a .board)) (parametersOf (a .g .group)) (a .n) (a .claim)))
+after c =
+    let a = c .before .before .before .before .before .before .before .args in
+    let o = c .before .branches in
+    ⊎-elim
+    (λ w.
+    let e : o .l ≡ a .branches = omega (arith, w .0 .left) in (
+      λ _. record {
+        all = all-end _ _ _ (o .inv .0) (w .0 .left) (o .inv .2);
+        sum = rw (w .2, ← e) (o .inv .3);
+        fed = rw (w .1, ← e) (o .inv .4);
+      },
+      λ z. absurd (true≢false (sym (o .inv .1) ∙ sym (w .3) ∙ z)),
+    ))
+    (λ w. (
+      λ z. absurd (true≢false (sym z ∙ w .9)),
+      λ _. fails-there (now (a .board)) (now (a .label)) (parametersOf (a .g .group)) (claimOf (now (a .board)) (parametersOf (a .g .group)) (a .n) (a .claim))
+          (a .at) (a .branches) (a .statements) (o .l) (w .3 .i) (w .0 .taken) (w .4 .taken)
+          (sym (this (record {
+            before = record {
+              before = record {
+                before = record { before = record { before = record { before = c .before; branches-test = w .0 }; as-exponent = w .1 }; add = w .2 };
+                statements = w .3;
+              };
+              statements-test = w .4;
+            };
+            statement-at = w .5;
+          })) ∙ not-true _ (w .6 .taken)),
+    ))
+    (c .branches-test .came)
+
+returns : tie.Need-returns Inv-statements μ-statements Inv-branches μ-branches
+returns c =
+    let a = c .before .before .before .before .before .before .before .before .before .before .before .before .before .args in
+    let k = after (c .before .before .before .before .before .before) .0 (c .before .before .before .before .before .if2 .taken) in
+    sums-up (now (a .board)) (now (a .label)) (parametersOf (a .g .group)) (claimOf (now (a .board)) (parametersOf (a .g .group)) (a .n) (a .claim))
+    (a .at) (a .branches) (a .statements) _ _ (k .all) (k .sum)
+    (c .before .before .challenge .ensures ∙ ap (λ (d : List ℕ). long d 0 % a .g .group .q) (c .before .before .before .before .finish .ensures _ (k .fed)))
+
+pub proof-holds-spec : {M : Type 1} → statement M
+proof-holds-spec =
+    tie.close
+    (tie.spec Inv-statements μ-statements Inv-branches μ-branches (λ c κs. search needs) (λ c κs. search needs) branches-holds
+    (λ c. omega (arith, branch-fits c)) (λ c. omega (arith, branch-fits c)) (λ c. omega (arith, branch-fits c)) (λ c. omega (arith, branch-fits c))
+    (λ c κs. omega (arith, branch-fits c)) (λ c κs. search needs) statements-holds
+    (λ c. omega (arith, fits c)) (λ c. omega (arith, fits c)) (λ c. omega (arith, fits c)) statement-at-requires
+    (λ c. omega (arith, fits (c .before .before))) (λ c. omega (arith, fits (c .before .before)))
+    (λ c. omega (arith, fits (c .before .before))) (λ c. omega (arith, fits (c .before .before)))
+    (λ c κs. search needs) add-i (λ c. omega arith) statements-again (λ c. omega arith) (λ c. omega arith) branches-again
+    (λ c κs. search needs) (λ c κs. search needs) returns (λ c. after (c .before) .1 (c .if2 .left)))

@@ -1,0 +1,45 @@
+-- What the code's claims say in the rules, and what they need.
+use Prim.Native.Nat.{ℕ, _+_, _*_, _-_, _≤_, _<_}
+use mathlib.Core.Path.{_≡_}
+use mathlib.Core.List.{List}
+use lib.ListN.{length, getD}
+use Rattle.group.specs.Arithmetic.{powMod}
+use Rattle.group.specs.Elements.{Parameters}
+use Rattle.rules.specs.Bytes.{word}
+use Rattle.rules.specs.Proofs as said
+use Rattle.rules.specs.Claims.{matrixAt, entryClaim, rowClaim, columnClaim, shiftClaim}
+use Rattle.statements.specs.declared.Statement.{Statement}
+use Rattle.statements.specs.declared.claims.Claim.{Claim}
+use Rattle.statements.specs.declared.claims.Claim.the-variants.{Entry, Row, Column, Shift}
+
+-- what a claim says of branch l, statement k: the matrices are those of the records at its places
+unfoldable pub claimOf : (s : List ℕ) → Parameters → (n : ℕ) → Claim → (l k : ℕ) → said.Statement
+claimOf s g n (Entry at i j) l k = entryClaim g (matrixAt s n at) i j l
+claimOf s g n (Row at i) l k = rowClaim g n (matrixAt s n at) i
+claimOf s g n (Column at j) l k = columnClaim g n (matrixAt s n at) j
+claimOf s g n (Shift before new rows a) l k = shiftClaim g n (matrixAt s n before) (matrixAt s n new) a l k
+
+-- the inverses of the words of a matrix, one after another
+abbrev pub Inverted : (s : List ℕ) (p q at words : ℕ) (inverses : List ℕ) → Type 0
+Inverted s p q at words inverses = (u : ℕ) → u < words → getD inverses u 0 ≡ powMod p (word s (at + 4 + 4 * u)) (q - 1)
+
+pub record InverseTable (s : List ℕ) (p q at words : ℕ) (inverses : List ℕ) : Type 0 where
+  pub long : length inverses ≡ 128
+  pub inverted : Inverted s p q at words inverses
+  pub zeros : (u : ℕ) → words ≤ u → getD inverses u 0 ≡ 0
+
+pub record Shifts (s inverses : List ℕ) (g : Parameters) (n before new rows a l k : ℕ) : Type 0 where
+  pub column : a < n
+  pub branch : l ≤ rows
+  pub statement : k < 2 + rows * n
+  pub earlier : before + 4 + 8 * ((rows + 1) * n) ≤ length s
+  pub later : new + 4 + 8 * (rows * n) ≤ length s
+  pub long-enough : 2 * ((rows + 1) * n) ≤ length inverses
+  pub inverted : Inverted s (g .p) (g .q) before (2 * ((rows + 1) * n)) inverses
+
+-- the pairs that a claim speaks of stand on the board, and the inverses that it needs are there
+unfoldable pub Within : (s inverses : List ℕ) → Parameters → (n : ℕ) → Claim → (l k : ℕ) → Type 0
+Within s inverses g n (Entry at i j) l k = (i < n) × (j < n) × (at + 4 + 8 * (n * n) ≤ length s)
+Within s inverses g n (Row at i) l k = (i < n) × (at + 4 + 8 * (n * n) ≤ length s)
+Within s inverses g n (Column at j) l k = (j < n) × (at + 4 + 8 * (n * n) ≤ length s)
+Within s inverses g n (Shift before new rows a) l k = Shifts s inverses g n before new rows a l k

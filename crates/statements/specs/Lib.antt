@@ -1,0 +1,4 @@
+-- What the code's values stand for in the rules.
+pub mod Values
+pub mod Claims
+pub mod Walks

@@ -1,0 +1,176 @@
+// What each proof claims, over matrices that stand at places of a lent slice.
+use crate::Setup;
+use crate::Statement;
+use group::Element;
+use group::Exponent;
+ghost use mathlib.Core.Path.{_≡_};
+ghost use Prim.Native.Nat.{_+_, _*_, _-_, _/_, _%_, _≤_, _<_, _^_};
+ghost use lib.ListN.{length};
+ghost use Rattle.group.specs.Elements.{parametersOf};
+ghost use Rattle.rules.specs.Claims.{matrixAt, source, entryClaim, rowClaim, columnClaim, shiftClaim};
+ghost use Rattle.statements.specs.Values.{statementOf, Ready};
+ghost use Rattle.statements.specs.Claims.{claimOf, Shifts, InverseTable, Within};
+
+// Which proof, over matrices of n columns. A place is that of the record, four bytes before the matrix.
+pub enum Claim {
+    // The pair in row i and column j is of 0 or of 1.
+    Entry {
+        at: usize,
+        i: usize,
+        j: usize,
+    },
+    // Row i sums to 1.
+    Row {
+        at: usize,
+        i: usize,
+    },
+    // Column j sums to 1.
+    Column {
+        at: usize,
+        j: usize,
+    },
+    // The new matrix, of so many rows, is the one before with the row struck that has its 1 in column a.
+    Shift {
+        before: usize,
+        new: usize,
+        rows: usize,
+        a: usize,
+    },
+}
+
+fn claimed_entry(s: &[u8], g: Setup, n: usize, at: usize, i: usize, j: usize, l: usize) -> Statement
+    requires { ⌜ Ready g ⌝ }
+    requires { ⌜ at + 4 + 8 * (i * n + j) + 8 ≤ length (now s) ⌝ }
+    ensures { λ r. ⌜ statementOf r ≡ entryClaim (parametersOf (g .group)) (matrixAt (now (s .entry)) n at) i j l ⌝ }
+{
+    let place = at + 4 + 8 * (i * n + j);
+    let b = fields::as_element(s, place);
+    let y = fields::as_element(s, place + 4);
+    if l == 0 {
+        return Statement { left: b, right: y };
+    }
+    Statement {
+        left: group::mul(g.group.p, b, g.inverse),
+        right: y,
+    }
+}
+
+fn claimed_row(s: &[u8], g: Setup, n: usize, at: usize, i: usize) -> Statement
+    requires { ⌜ Ready g ⌝ }
+    requires { ⌜ (i < n) × (at + 4 + 8 * (n * n) ≤ length (now s)) ⌝ }
+    ensures { λ r. ⌜ statementOf r ≡ rowClaim (parametersOf (g .group)) n (matrixAt (now (s .entry)) n at) i ⌝ }
+{
+    let place = at + 4 + 8 * (i * n);
+    let b = fields::product(s, g.group.p, place, 8, n);
+    let y = fields::product(s, g.group.p, place + 4, 8, n);
+    Statement {
+        left: group::mul(g.group.p, b, g.inverse),
+        right: y,
+    }
+}
+
+fn claimed_column(s: &[u8], g: Setup, n: usize, at: usize, j: usize) -> Statement
+    requires { ⌜ Ready g ⌝ }
+    requires { ⌜ (j < n) × (at + 4 + 8 * (n * n) ≤ length (now s)) ⌝ }
+    ensures { λ r. ⌜ statementOf r ≡ columnClaim (parametersOf (g .group)) n (matrixAt (now (s .entry)) n at) j ⌝ }
+{
+    let place = at + 4 + 8 * j;
+    let b = fields::product(s, g.group.p, place, 8 * n, n);
+    let y = fields::product(s, g.group.p, place + 4, 8 * n, n);
+    Statement {
+        left: group::mul(g.group.p, b, g.inverse),
+        right: y,
+    }
+}
+
+// The pair before that the new pair t comes from, where row l is struck.
+fn source_of(n: usize, l: usize, t: usize) -> usize
+    requires { ⌜ (0 < n) × (t + n < 2 ^ 64) ⌝ }
+    ensures { λ r. ⌜ r ≡ source l (t / n) * n + t % n ⌝ }
+{
+    let row = t / n;
+    if row < l {
+        return t;
+    }
+    t + n
+}
+
+fn claimed_shift(
+    s: &[u8],
+    inverses: &[u32],
+    g: Setup,
+    n: usize,
+    before: usize,
+    new: usize,
+    rows: usize,
+    a: usize,
+    l: usize,
+    k: usize,
+) -> Statement
+    requires { ⌜ Ready g ⌝ }
+    requires { ⌜ Shifts (now s) (now inverses) (parametersOf (g .group)) n before new rows a l k ⌝ }
+    ensures { λ r. ⌜ statementOf r ≡ shiftClaim (parametersOf (g .group)) n (matrixAt (now (s .entry)) n before) (matrixAt (now (s .entry)) n new) a l k ⌝ }
+{
+    let p = g.group.p;
+    if k == 0 {
+        return claimed_entry(s, g, n, before, l, a, 1);
+    }
+    if k == 1 {
+        let place = before + 4 + 8 * (l * n);
+        let b = fields::product_besides(s, p, place, 8, n, a);
+        let y = fields::product_besides(s, p, place + 4, 8, n, a);
+        return Statement { left: b, right: y };
+    }
+    let t = k - 2;
+    let from = source_of(n, l, t);
+    let place = new + 4 + 8 * t;
+    let b = fields::as_element(s, place);
+    let y = fields::as_element(s, place + 4);
+    let b_inverse = Element(inverses[2 * from]);
+    let y_inverse = Element(inverses[2 * from + 1]);
+    Statement {
+        left: group::mul(p, b, b_inverse),
+        right: group::mul(p, y, y_inverse),
+    }
+}
+
+// What a claim says of branch l, statement k.
+pub fn claimed(
+    s: &[u8],
+    inverses: &[u32],
+    g: Setup,
+    n: usize,
+    claim: Claim,
+    l: usize,
+    k: usize,
+) -> Statement
+    requires { ⌜ Ready g ⌝ }
+    requires { ⌜ Within (now s) (now inverses) (parametersOf (g .group)) n claim l k ⌝ }
+    ensures { λ r. ⌜ statementOf r ≡ claimOf (now (s .entry)) (parametersOf (g .group)) n claim l k ⌝ }
+{
+    match claim {
+        Claim::Entry { at, i, j } => claimed_entry(s, g, n, at, i, j, l),
+        Claim::Row { at, i } => claimed_row(s, g, n, at, i),
+        Claim::Column { at, j } => claimed_column(s, g, n, at, j),
+        Claim::Shift {
+            before,
+            new,
+            rows,
+            a,
+        } => claimed_shift(s, inverses, g, n, before, new, rows, a, l, k),
+    }
+}
+
+// The inverses of the words of a matrix, with zeros up to 128. They are numbers modulo p: a slice of tuple structs cannot be lent.
+pub fn inverse_table(s: &[u8], p: u32, q: u32, at: usize, words: usize) -> [u32; 128]
+    requires { ⌜ (0 < p) × (0 < q) × (words ≤ 128) × (at + 4 + 4 * words ≤ length (now s)) ⌝ }
+    ensures { λ r. ⌜ InverseTable (now (s .entry)) p q at words r ⌝ }
+{
+    let mut table = [0u32; 128];
+    let e = Exponent(q - 1);
+    for u in 0..words {
+        let x = group::pow(p, fields::as_element(s, at + 4 + 4 * u), e);
+        table[u] = x.0;
+    }
+    table
+}

@@ -1,0 +1,84 @@
+// Statements: what a proof claims of the matrices on a board, and its check.
+use group::Element;
+use group::Exponent;
+use group::Group;
+ghost use mathlib.Core.Path.{_≡_};
+ghost use Prim.Native.Nat.{_+_, _*_, _-_, _%_, _<_};
+ghost use Rattle.rules.specs.Bytes.{word, long};
+ghost use Rattle.rules.specs.Proofs.{statementHolds};
+ghost use Rattle.statements.specs.Values.{statementOf, Ready};
+
+pub mod claims;
+pub mod proof;
+pub mod walks;
+
+// The group, with the inverse of g1 worked out once.
+pub struct Setup {
+    pub group: Group,
+    pub inverse: Element,
+}
+
+impl Setup {
+    pub fn new(group: Group) -> Setup
+        requires { ⌜ (0 < group .p) × (0 < group .q) ⌝ }
+        ensures { λ r. ⌜ (r .group ≡ group) × Ready r ⌝ }
+    {
+        let inverse = group::pow(group.p, group.g1, Exponent(group.q - 1));
+        Setup { group, inverse }
+    }
+}
+
+// A pair (A, B) of which some w has A = g0^w and B = g1^w.
+pub struct Statement {
+    pub left: Element,
+    pub right: Element,
+}
+
+// One statement, at any two bases.
+pub fn statement_holds(
+    p: u32,
+    base0: Element,
+    base1: Element,
+    st: Statement,
+    t1: Element,
+    t2: Element,
+    e: Exponent,
+    r: Exponent,
+) -> bool
+    requires { ⌜ 0 < p ⌝ }
+    ensures { λ b. ⌜ b ≡ statementHolds p (base0 .0) (base1 .0) (statementOf st) (t1 .0) (t2 .0) (e .0) (r .0) ⌝ }
+{
+    let left = group::mul(p, t1, group::pow(p, st.left, e));
+    if group::pow(p, base0, r).0 == left.0 {
+        let right = group::mul(p, t2, group::pow(p, st.right, e));
+        group::pow(p, base1, r).0 == right.0
+    } else {
+        false
+    }
+}
+
+// The first 8 bytes of a digest as a number, modulo m.
+fn residue(digest: &[u8; 32], m: u32) -> u32
+    requires { ⌜ 0 < m ⌝ }
+    ensures { λ r. ⌜ r ≡ long (now (digest .entry)) 0 % m ⌝ }
+{
+    let high = fields::word(digest, 0) as u64;
+    let low = fields::word(digest, 4) as u64;
+    ((high * 4294967296 + low) % (m as u64)) as u32
+}
+
+// A proof's challenge.
+pub fn challenge(digest: &[u8; 32], q: u32) -> Exponent
+    requires { ⌜ 0 < q ⌝ }
+    ensures { λ r. ⌜ r .0 ≡ long (now (digest .entry)) 0 % q ⌝ }
+{
+    Exponent(residue(digest, q))
+}
+
+// A digest modulo p, of which g1 is made.
+pub fn hashed_element(digest: &[u8; 32], p: u32) -> Element
+    requires { ⌜ 0 < p ⌝ }
+    ensures { λ r. ⌜ r .0 ≡ long (now (digest .entry)) 0 % p ⌝ }
+{
+    Element(residue(digest, p))
+}
