@@ -1,0 +1,71 @@
+-- The first ballot whose record has a fault, one ballot after another. Assumes nothing.
+use Prim.Native.Nat.{ℕ, zero, suc, _+_, _≤_, _<_}
+use mathlib.Core.Path.{_≡_, refl}
+use mathlib.Core.List.{List}
+use mathlib.Core.Option.{none, some}
+use mathlib.Core.Logic.{⊎-elim}
+use native.Mathlib.Nat.{eq-or-lt-of-le, le-of-suc-le-suc}
+use native.Mathlib.Numerals.{add-one}
+use native.Mathlib.Omega.{arith}
+use lib.Dec.{lit<}
+use lib.ListN.{length}
+use borrow.Author.Tests.{leb-true, eq-eqb, ne-eqb}
+use Rattle.sha256.specs.Message.{sha256}
+use Rattle.rules.specs.Records.{recordAt, recordLength, sheetLength}
+use Rattle.rules.specs.Check.{Header, recordFault, sheetFault, faultBelow}
+use Rattle.rules.specs.Answers.{refusalNumber}
+use Rattle.rules.specs.declared.Refusal.{Refusal}
+use Rattle.rules.specs.declared.Refusal.the-variants as R
+use Rattle.whole.proofs.Faults.{first-holds}
+
+pub positive : (w : Refusal) → 0 < refusalNumber w
+positive R.Length = lit< tt
+positive R.Mark = lit< tt
+positive R.Sizes = lit< tt
+positive R.Orders = lit< tt
+positive R.Generators = lit< tt
+positive R.Number = lit< tt
+positive R.Field = lit< tt
+positive R.Proof = lit< tt
+positive R.Count = lit< tt
+positive R.Tally = lit< tt
+positive R.Out = lit< tt
+positive R.Remain = lit< tt
+positive R.Rankings = lit< tt
+positive R.Draws = lit< tt
+positive R.Output = lit< tt
+
+-- a record without a fault fits
+pub record-fits : (s : List ℕ) (H : Header) (a m k : ℕ) → recordFault sha256 s H a m k ≡ 0 → recordAt (H .n) (H .K) m k + recordLength (H .n) m ≤ length s
+unfolding recordFault
+record-fits s H a zero k h = leb-true _ _ (first-holds _ _ (omega arith) h .0)
+record-fits s H a (suc m) k h = leb-true _ _ (first-holds _ _ (omega arith) h .0)
+
+pub sheet-fits : (s : List ℕ) (H : Header) (m d : ℕ) → sheetFault s H m d ≡ 0 → recordAt (H .n) (H .K) m (H .K) + sheetLength (H .n) ≤ length s
+unfolding sheetFault
+sheet-fits s H m d h = leb-true _ _ (first-holds _ _ (omega arith) h .0)
+
+module _ (f : ℕ → ℕ) where
+  pub none-yet : faultBelow 0 f ≡ none
+  unfolding faultBelow
+  none-yet = refl
+
+  pub none-more : (k : ℕ) → faultBelow k f ≡ none → f k ≡ 0 → faultBelow (k + 1) f ≡ none
+  unfolding faultBelow
+  none-more k h z = rw (add-one k, h, eq-eqb _ _ z)
+
+  stays : (k : ℕ) (w : ℕ × ℕ) → faultBelow k f ≡ some w → faultBelow (suc k) f ≡ some w
+  unfolding faultBelow
+  stays k w h = rw h
+
+  here : (k : ℕ) → faultBelow k f ≡ none → 0 < f k → faultBelow (suc k) f ≡ some (k, f k)
+  unfolding faultBelow
+  here k h p = rw (h, ne-eqb (f k) 0 (λ z. omega arith))
+
+  pub first-fault : (n k x : ℕ) → k < n → faultBelow k f ≡ none → x ≡ f k → 0 < x → faultBelow n f ≡ some (k, x)
+  first-fault zero k x l h e p = absurd (omega arith)
+  first-fault (suc n) k x l h e p =
+      ⊎-elim
+      (λ (d : k ≡ n). rw (← d, e) (here k h (rw e at p)))
+      (λ (b : k < n). stays n (k, x) (first-fault n k x b h e p))
+      (eq-or-lt-of-le (le-of-suc-le-suc l))

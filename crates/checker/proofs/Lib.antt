@@ -1,0 +1,5 @@
+-- Laws that the proofs of `checker` cite.
+pub mod FirstFault
+pub mod RoundPlaces
+pub mod RoundEnds
+pub mod Onward

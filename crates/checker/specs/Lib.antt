@@ -1,0 +1,3 @@
+-- Where rounds stand, and what they come to.
+pub mod Stages
+pub mod Outcomes

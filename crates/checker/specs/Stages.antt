@@ -1,0 +1,25 @@
+-- Where a round stands on the board.
+use Prim.Native.Nat.{ℕ, suc, _+_, _*_, _-_, _≤_, _<_}
+use mathlib.Core.Path.{_≡_}
+use mathlib.Core.List.{List}
+use lib.ListN.{length}
+use Rattle.rules.specs.Records.{roundAt, recordLength}
+use Rattle.records.specs.Sizes.{ballotSize, shiftSize, sheetSize}
+use Rattle.records.specs.declared.Head.{Head}
+use Rattle.checker.specs.declared.stages.Stage.{Stage}
+
+abbrev pub firstStage : (n : ℕ) → Stage
+firstStage n = record { m = 0; a = 0; at = 54; size = ballotSize n; before = 0; earlier = 0 }
+
+abbrev pub nextStage : (n k a : ℕ) → Stage → Stage
+nextStage n k a r =
+    record { m = r .m + 1; a = a; at = r .at + k * r .size + sheetSize n; size = shiftSize n (n - r .m - 1); before = r .at; earlier = r .size }
+
+-- the round starts at its place, with records of its size; so does the round before, in which a went out
+pub record Placed (s : List ℕ) (h : Head) (r : Stage) : Type 0 where
+  pub here : r .at ≡ roundAt (h .n) (h .k) (r .m)
+  pub sized : r .size ≡ recordLength (h .n) (r .m)
+  pub fits : r .at ≤ length s
+  pub round : r .m + 1 < h .n
+  pub first : r .m ≡ 0 → (r .before ≡ 0) × (r .earlier ≡ 0)
+  pub later : (e : ℕ) → r .m ≡ suc e → (r .before ≡ roundAt (h .n) (h .k) e) × (r .earlier ≡ recordLength (h .n) e) × (1 ≤ r .a) × (r .a ≤ h .n)

@@ -1,0 +1,112 @@
+// The checker of a board: the rounds in order, and the verdict.
+use crate::stages::Stage;
+use crate::turns::Round;
+use count::Count;
+use records::Head;
+use records::header;
+use records::header::Opened;
+use records::sheet;
+use rules::Answer;
+use rules::Checked;
+use rules::Refusal;
+ghost use mathlib.Core.Path.{_≡_};
+ghost use Prim.Native.Nat.{_+_, _*_, _-_};
+ghost use lib.ListN.{replicate};
+ghost use Rattle.sha256.specs.Message.{sha256};
+ghost use Rattle.rules.specs.Count.{start};
+ghost use Rattle.rules.specs.Check.{accepted, refused, checkFrom, checkBoard};
+ghost use Rattle.rules.specs.Answers.{refusalNumber, verdictOf, orderOf};
+ghost use Rattle.count.specs.State.{standingOf, Kept};
+ghost use Rattle.records.specs.Heads.{headOf, Known};
+
+pub mod stages;
+pub mod turns;
+
+// The number of a refusal in the table.
+pub fn refusal_number(r: Refusal) -> usize
+    ensures { λ n. ⌜ n ≡ refusalNumber r ⌝ }
+{
+    match r {
+        Refusal::Length => 1,
+        Refusal::Mark => 2,
+        Refusal::Sizes => 3,
+        Refusal::Orders => 4,
+        Refusal::Generators => 5,
+        Refusal::Number => 6,
+        Refusal::Field => 7,
+        Refusal::Proof => 8,
+        Refusal::Count => 9,
+        Refusal::Tally => 10,
+        Refusal::Out => 11,
+        Refusal::Remain => 12,
+        Refusal::Rankings => 13,
+        Refusal::Draws => 14,
+        Refusal::Output => 15,
+    }
+}
+
+fn refused(why: Refusal, place: usize) -> Checked
+    ensures { λ r. ⌜ (verdictOf r ≡ refused (refusalNumber why) place) × (r .order ≡ replicate 8 0) ⌝ }
+{
+    Checked {
+        answer: Answer::Refused {
+            refusal: why,
+            record: place,
+        },
+        order: [0u8; 8],
+    }
+}
+
+fn accepted(count: Count, n: usize, winner: usize) -> Checked
+    requires { ⌜ Kept count ⌝ }
+    ensures { λ r. ⌜ (verdictOf r ≡ accepted (count .gone .outs + 1) (standingOf n count .gone) winner) × (r .order ≡ orderOf (accepted (count .gone .outs + 1) (standingOf n count .gone) winner)) ⌝ }
+{
+    let gone = count.gone;
+    let order = gone.order;
+    Checked {
+        answer: Answer::Accepted {
+            rounds: gone.outs + 1,
+            winner,
+        },
+        order,
+    }
+}
+
+// The rounds, one after another. Each sheet takes the standing count and hands back the next.
+fn rounds(board: &[u8], h: Head) -> Checked
+    requires { ⌜ Known (now board) h ⌝ }
+    ensures { λ r. ⌜ (verdictOf r ≡ checkFrom sha256 (now (board .entry)) (headOf (now (board .entry)) h) (h .n) start 0 0) × (r .order ≡ orderOf (checkFrom sha256 (now (board .entry)) (headOf (now (board .entry)) h) (h .n) start 0 0)) ⌝ }
+{
+    let head = h;
+    let n = h.n;
+    let k = h.k;
+    let mut count = Count::new();
+    let mut stage = Stage::first(n);
+    loop {
+        let outcome = turns::turn(board, head, count, stage);
+        match outcome {
+            Round::Refused(why, place) => {
+                return refused(why, place);
+            }
+            Round::Closed(winner) => {
+                return accepted(count, n, winner);
+            }
+            Round::Open => {}
+        }
+        let sheet = sheet::sheet_counts(board, stage.at + k * stage.size, n);
+        let out = count.leaves(sheet, n);
+        count = count.sheet(sheet, n);
+        stage = stage.next(n, k, out);
+    }
+}
+
+// The verdict on a board.
+pub fn check(board: &[u8]) -> Checked
+    ensures { λ r. ⌜ (verdictOf r ≡ checkBoard sha256 (now (board .entry))) × (r .order ≡ orderOf (checkBoard sha256 (now (board .entry)))) ⌝ }
+{
+    let opened = header::open(board);
+    match opened {
+        Opened::Board(h) => rounds(board, h),
+        Opened::Refused(why) => refused(why, 0),
+    }
+}

@@ -1,0 +1,2 @@
+-- Laws that the proofs of `parameters`, and its users, cite.
+pub mod Rules

@@ -1,0 +1,78 @@
+-- The tests of the BA and SH records, at the place where the record starts. Assumes nothing.
+use Prim.Native.Nat.{ℕ, suc, _+_, _*_, _-_, _/_, _%_, _<_}
+use mathlib.Core.Path.{_≡_, _∙_}
+use mathlib.Core.Bool.{and-assoc}
+use mathlib.Core.List.{List, [], _∷_}
+use native.Mathlib.Nat.{mul-add-div-right, mul-add-mod-self-right, mod-eq-of-lt, div-eq-of-lt, add-zero}
+use native.Mathlib.Omega.{arith}
+use lib.Dec.{leb, eqb}
+use lib.ListN.{length}
+use Rattle.numbers.specs.Below.{allBelow}
+use Rattle.numbers.proofs.Tests.{all-grid, all-same, all-add}
+use Rattle.sha256.specs.Message.{sha256}
+use Rattle.group.specs.Elements.{parametersOf}
+use Rattle.rules.specs.Bytes.{half}
+use Rattle.rules.specs.Records.{BA, SH, hasMark, recordAt, recordLength, ballotLength, shiftLength}
+use Rattle.rules.specs.Proofs.{proofFields}
+use Rattle.rules.specs.Claims.{matrixAt, entryClaim}
+use Rattle.rules.specs.Check.{firstFault, _orElse_, recordFault, ballotFields, ballotProofs, shiftFields, shiftHolds, pairsGood}
+use Rattle.statements.specs.Walks.{pairFields}
+use Rattle.records.specs.declared.Head.{Head}
+use Rattle.records.specs.Heads.{headOf}
+use Rattle.records.specs.Sizes.{ballotSize, shiftSize}
+use Rattle.records.specs.Parts.{ballotFieldsAt, proofAt, entryGood, ballotProofsAt, shiftFieldsAt, shiftProofAt}
+
+row-of : (n i j : ℕ) → j < n → (i * n + j) / n ≡ i
+row-of n i j l = mul-add-div-right (omega arith) i j ∙ rw (div-eq-of-lt l) (add-zero i)
+
+column-of : (n i j : ℕ) → j < n → (i * n + j) % n ≡ j
+column-of n i j l = mul-add-mod-self-right i n j ∙ mod-eq-of-lt l
+
+module _ (s : List ℕ) (h : Head) (k at : ℕ) (e : at ≡ recordAt (h .n) (h .k) 0 k) where
+  fields-are : ballotFields s (headOf s h) k ≡ ballotFieldsAt s (h .n) (h .setup .group .p) (h .setup .group .q) at
+  unfolding ballotFields pairsGood matrixAt
+  fields-are =
+      rw (
+        ← e,
+        all-grid (h .n) (h .n) (λ t. pairFields s (at + 4 + 8 * t) (h .setup .group .p) (h .setup .group .q)),
+        all-grid (h .n) (h .n) (λ t. proofFields s (at + 4 + 8 * (h .n * h .n) + 32 * t) 2 1 (h .setup .group .p) (h .setup .group .q)),
+        all-add (h .n) (h .n) (λ t. proofFields s (at + 4 + 40 * (h .n * h .n) + 16 * t) 1 1 (h .setup .group .p) (h .setup .group .q)),
+        and-assoc,
+      )
+
+  entries-are :
+      allBelow (h .n) (λ i. allBelow (h .n) (λ j.
+      proofAt s h (at + 4 + 8 * (h .n * h .n) + 32 * (i * h .n + j)) 2 1 (λ l _. entryClaim (parametersOf (h .setup .group)) (matrixAt s (h .n) at) i j l)))
+      ≡ allBelow (h .n * h .n) (entryGood s h at)
+  entries-are =
+      all-same (h .n) _ (λ i. allBelow (h .n) (λ j. entryGood s h at (i * h .n + j)))
+      (λ i li. all-same (h .n) _ (λ j. entryGood s h at (i * h .n + j)) (λ j lj. rw (row-of (h .n) i j lj, column-of (h .n) i j lj)))
+      ∙ all-grid (h .n) (h .n) (entryGood s h at)
+
+  proofs-are : ballotProofs sha256 s (headOf s h) k ≡ ballotProofsAt s h at
+  unfolding ballotProofs
+  proofs-are = rw (← e, entries-are)
+
+  pub ballot-table : (a : ℕ) →
+      recordFault sha256 s (headOf s h) a 0 k
+      ≡ firstFault ((leb (at + ballotSize (h .n)) (length s) orElse 1) ∷ (hasMark s at BA orElse 2) ∷ (eqb (half s (at + 2)) (k + 1) orElse 6)
+      ∷ (ballotFieldsAt s (h .n) (h .setup .group .p) (h .setup .group .q) at orElse 7) ∷ (ballotProofsAt s h at orElse 8) ∷ [])
+  unfolding recordFault recordLength ballotLength
+  ballot-table a = rw (fields-are, proofs-are, ← e)
+
+module _ (s : List ℕ) (h : Head) (m k a at before rows : ℕ)
+    (e : at ≡ recordAt (h .n) (h .k) (suc m) k) (eb : before ≡ recordAt (h .n) (h .k) m k) (er : rows ≡ h .n - suc m) where
+  shift-fields-are : shiftFields s (headOf s h) m k ≡ shiftFieldsAt s (h .n) (h .setup .group .p) (h .setup .group .q) at rows
+  unfolding shiftFields pairsGood matrixAt
+  shift-fields-are = rw (← e, ← er, all-grid rows (h .n) (λ t. pairFields s (at + 4 + 8 * t) (h .setup .group .p) (h .setup .group .q)))
+
+  shift-proof-is : shiftHolds sha256 s (headOf s h) m k a ≡ shiftProofAt s h before at rows (a - 1)
+  unfolding shiftHolds
+  shift-proof-is = rw (← e, ← eb, ← er)
+
+  pub shift-table :
+      recordFault sha256 s (headOf s h) a (suc m) k
+      ≡ firstFault ((leb (at + shiftSize (h .n) rows) (length s) orElse 1) ∷ (hasMark s at SH orElse 2) ∷ (eqb (half s (at + 2)) (k + 1) orElse 6)
+      ∷ (shiftFieldsAt s (h .n) (h .setup .group .p) (h .setup .group .q) at rows orElse 7) ∷ (shiftProofAt s h before at rows (a - 1) orElse 8) ∷ [])
+  unfolding recordFault recordLength shiftLength
+  shift-table = rw (shift-fields-are, shift-proof-is, ← e, ← er)

@@ -1,0 +1,65 @@
+-- The parts of a record's tests, at the place where the record starts.
+use Prim.Native.Nat.{ℕ, _+_, _*_, _/_, _%_}
+use mathlib.Core.List.{List}
+use mathlib.Core.Bool.{Bool, _&&_}
+use lib.Dec.{eqb, leb, ltb}
+use Rattle.numbers.specs.Below.{allBelow, prodBelow}
+use Rattle.sha256.specs.Message.{sha256}
+use Rattle.group.specs.Arithmetic.{powMod}
+use Rattle.group.specs.Elements.{parametersOf}
+use Rattle.rules.specs.Group.{paired}
+use Rattle.rules.specs.Bytes.{word, half, part}
+use Rattle.rules.specs.Claims.{matrixAt, entryClaim, rowClaim, columnClaim, shiftClaim}
+use Rattle.rules.specs.Proofs.{Statement, proofFields, proofHolds}
+use Rattle.statements.specs.Walks.{pairsFields, proofsFields}
+use Rattle.records.specs.declared.Head.{Head}
+
+-- ---- BA: the row proofs and the column proofs are of one shape
+abbrev pub ballotFieldsAt : (s : List ℕ) (n p q at : ℕ) → Bool
+ballotFieldsAt s n p q at =
+    pairsFields s (at + 4) (n * n) p q && proofsFields s (at + 4 + 8 * (n * n)) (n * n) 2 1 p q
+    && proofsFields s (at + 4 + 40 * (n * n)) (n + n) 1 1 p q
+
+-- a proof under the board's label
+abbrev pub proofAt : (s : List ℕ) (h : Head) (at branches statements : ℕ) → (ℕ → ℕ → Statement) → Bool
+proofAt s h at branches statements claim = proofHolds s at branches statements sha256 (part s 22 32) (parametersOf (h .setup .group)) claim
+
+-- entry t, by rows
+abbrev pub entryGood : (s : List ℕ) (h : Head) (at t : ℕ) → Bool
+entryGood s h at t =
+    proofAt s h (at + 4 + 8 * (h .n * h .n) + 32 * t) 2 1
+    (λ l _. entryClaim (parametersOf (h .setup .group)) (matrixAt s (h .n) at) (t / h .n) (t % h .n) l)
+
+abbrev pub rowGood : (s : List ℕ) (h : Head) (at i : ℕ) → Bool
+rowGood s h at i =
+    proofAt s h (at + 4 + 40 * (h .n * h .n) + 16 * i) 1 1 (λ _ _. rowClaim (parametersOf (h .setup .group)) (h .n) (matrixAt s (h .n) at) i)
+
+abbrev pub columnGood : (s : List ℕ) (h : Head) (at j : ℕ) → Bool
+columnGood s h at j =
+    proofAt s h (at + 4 + 40 * (h .n * h .n) + 16 * (h .n + j)) 1 1
+    (λ _ _. columnClaim (parametersOf (h .setup .group)) (h .n) (matrixAt s (h .n) at) j)
+
+abbrev pub ballotProofsAt : (s : List ℕ) (h : Head) (at : ℕ) → Bool
+ballotProofsAt s h at =
+    allBelow (h .n * h .n) (entryGood s h at) && allBelow (h .n) (rowGood s h at) && allBelow (h .n) (columnGood s h at)
+
+-- ---- SH: a is a column
+abbrev pub shiftFieldsAt : (s : List ℕ) (n p q at rows : ℕ) → Bool
+shiftFieldsAt s n p q at rows = pairsFields s (at + 4) (rows * n) p q && proofFields s (at + 4 + 8 * (rows * n)) (rows + 1) (2 + rows * n) p q
+
+abbrev pub shiftProofAt : (s : List ℕ) (h : Head) (before at rows a : ℕ) → Bool
+shiftProofAt s h before at rows a =
+    proofAt s h (at + 4 + 8 * (rows * h .n)) (rows + 1) (2 + rows * h .n)
+    (λ l i. shiftClaim (parametersOf (h .setup .group)) (h .n) (matrixAt s (h .n) before) (matrixAt s (h .n) at) a l i)
+
+-- ---- RT
+abbrev pub countGood : (s : List ℕ) (k q at i : ℕ) → Bool
+countGood s k q at i = leb (half s (at + 4 + 6 * i)) k && ltb (word s (at + 6 + 6 * i)) q
+
+-- column i of a round whose ballots start at first, size bytes apart, and whose sheet stands at a place
+abbrev pub tallyAt : (s : List ℕ) (h : Head) (first size at i : ℕ) → Bool
+tallyAt s h first size at i =
+    eqb (prodBelow (h .k) (λ k. word s (first + 4 + 8 * i + size * k)) % h .setup .group .p)
+    (paired (parametersOf (h .setup .group)) (word s (at + 6 + 6 * i)) (half s (at + 4 + 6 * i)))
+    && eqb (prodBelow (h .k) (λ k. word s (first + 4 + 8 * i + 4 + size * k)) % h .setup .group .p)
+    (powMod (h .setup .group .p) (h .setup .group .g1 .0) (word s (at + 6 + 6 * i)))

@@ -1,0 +1,58 @@
+// The HD record.
+use crate::Head;
+use crate::frames;
+use group::Group;
+use rules::Refusal;
+use statements::Setup;
+ghost use mathlib.Core.Path.{_≡_};
+ghost use Prim.Native.Nat.{_-_, _≤_, _<_};
+ghost use lib.ListN.{length};
+ghost use Rattle.group.specs.Elements.{parametersOf};
+ghost use Rattle.rules.specs.Check.{header};
+ghost use Rattle.records.specs.Heads.{Opening};
+
+pub enum Opened {
+    Board(Head),
+    Refused(Refusal),
+}
+
+// p, q, g0 and g1 as the record shows them.
+fn shown(board: &[u8]) -> Group
+    requires { ⌜ 54 ≤ length (now board) ⌝ }
+    ensures { λ r. ⌜ parametersOf r ≡ header (now (board .entry)) .group ⌝ }
+{
+    Group {
+        p: fields::word(board, 5),
+        q: fields::word(board, 9),
+        g0: fields::as_element(board, 13),
+        g1: fields::as_element(board, 18),
+    }
+}
+
+pub fn open(board: &[u8]) -> Opened
+    ensures { λ r. ⌜ Opening (now (board .entry)) r ⌝ }
+{
+    if board.len() < 54 {
+        return Opened::Refused(Refusal::Length);
+    }
+    if !frames::has_mark(board, 0, 72, 68) {
+        return Opened::Refused(Refusal::Mark);
+    }
+    let n = frames::byte(board, 2);
+    let k = frames::number(board, 3);
+    if !parameters::sizes_good(n, k) {
+        return Opened::Refused(Refusal::Sizes);
+    }
+    let group = shown(board);
+    if !parameters::orders_good(n, k, group.p, group.q) {
+        return Opened::Refused(Refusal::Orders);
+    }
+    if !parameters::generators_good(&board[22..54], board[17], group) {
+        return Opened::Refused(Refusal::Generators);
+    }
+    Opened::Board(Head {
+        n,
+        k,
+        setup: Setup::new(group),
+    })
+}

@@ -1,0 +1,61 @@
+// The records of a board, each with its tests in the table's order: the frame (1, 2, 6), the fields (7, 9), the proofs and equations (8, 10, 11).
+use rules::Refusal;
+use statements::Setup;
+use statements::claims::Claim;
+ghost use mathlib.Core.Path.{_≡_};
+ghost use Prim.Native.Nat.{ℕ, _+_, _*_, _≤_, _<_};
+ghost use lib.ListN.{length};
+ghost use Rattle.sha256.specs.Message.{sha256};
+ghost use Rattle.group.specs.Elements.{parametersOf};
+ghost use Rattle.rules.specs.Bytes.{part};
+ghost use Rattle.rules.specs.Proofs.{proofHolds};
+ghost use Rattle.statements.specs.Claims.{claimOf, Within};
+ghost use Rattle.records.specs.Heads.{Known};
+
+pub mod ballot;
+pub mod frames;
+pub mod header;
+pub mod sheet;
+pub mod shift;
+
+// What the tests of a record find.
+pub enum Fault {
+    Sound,
+    Refused(Refusal),
+}
+
+// What is read from a sound HD record.
+pub struct Head {
+    pub n: usize,
+    pub k: usize,
+    pub setup: Setup,
+}
+
+// A proof on the board, under the board's label.
+fn proof_good(
+    board: &[u8],
+    inverses: &[u32],
+    at: usize,
+    branches: usize,
+    statements: usize,
+    h: Head,
+    claim: Claim,
+) -> bool
+    requires { ⌜ Known (now board) h ⌝ }
+    requires { ⌜ at + branches * (4 + 12 * statements) ≤ length (now board) ⌝ }
+    requires { ⌜ ((l i : ℕ) → l < branches → i < statements → Within (now board) (now inverses) (parametersOf (h .setup .group)) (h .n) claim l i) ⌝ }
+    ensures { λ r. ⌜ r ≡ proofHolds (now (board .entry)) at branches statements sha256 (part (now (board .entry)) 22 32) (parametersOf (h .setup .group)) (claimOf (now (board .entry)) (parametersOf (h .setup .group)) (h .n) claim) ⌝ }
+{
+    let label = &board[22..54];
+    statements::proof::proof_holds(
+        board,
+        label,
+        inverses,
+        at,
+        branches,
+        statements,
+        h.setup,
+        h.n,
+        claim,
+    )
+}
