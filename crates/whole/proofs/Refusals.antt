@@ -4,7 +4,7 @@ use mathlib.Core.Path.{_≡_, refl, sym, _∙_}
 use mathlib.Core.Bool.{Bool, true, false, cond, true≢false}
 use mathlib.Core.List.{List, [], _∷_, _++_, append-assoc}
 use mathlib.Core.Option.{Option, none, some}
-use native.Mathlib.Nat.{pos-of-ne-zero}
+use native.Mathlib.Nat.{pos-of-ne-zero, mul-le-mul-right}
 use native.Mathlib.Omega.{arith}
 use lib.Dec.{eqb}
 use lib.ListN.{length, length-append}
@@ -141,9 +141,9 @@ module _ (hash : List ℕ → List ℕ) (s : List ℕ) where
       go : (b : Bool) → eqb (headerFault hash s) 0 ≡ b → BoardRefusal s number k
       go true w =
           let f = eqb-true _ _ w in
-          let two = header-good hash s f .two in
+          let good = header-good hash s f in
           let n = named (header s) (header s .n) start 0 0 number k
-          (record { fuelled = omega arith; early = two; sheeted = refl; reached = header-bound f }) (rw (w, checkBoard) at e) in
+          (record { fuelled = omega arith; early = good .two; sheeted = refl; reached = header-bound f }) (rw (w, checkBoard) at e) in
           record {
             low = n .low;
             high = n .high;
@@ -151,6 +151,10 @@ module _ (hash : List ℕ → List ℕ) (s : List ℕ) where
             few = n .few;
             stands = λ m q. let same : m ≡ n .last = omega arith in rw same (n .stands);
             within = n .within;
+            most =
+                let few : n .last + 1 ≤ 7 = omega (arith, n .few, good .eight) in
+                let up : (n .last + 1) * (header s .K + 1) ≤ 7 * (header s .K + 1) = mul-le-mul-right (header s .K + 1) few in
+                omega (arith, n .within, good .thousand);
           }
       go false w =
           let q = refused-same (rw (w, checkBoard) at e) in
@@ -162,6 +166,7 @@ module _ (hash : List ℕ → List ℕ) (s : List ℕ) where
             few = omega arith;
             stands = λ m z. absurd (omega arith);
             within = omega arith;
+            most = omega arith;
           })
 
 -- ---- jobs

@@ -21,6 +21,8 @@ pub record BoardRefusal (s : List ℕ) (number place : ℕ) : Type 0 where
   pub few : rounds ≤ header s .n - 1
   pub stands : (m : ℕ) → rounds ≡ suc m → roundAt (header s .n) (header s .K) m ≤ length s
   pub within : place ≤ rounds * (header s .K + 1) + 1
+  -- that is, of 7 rounds of 1,000 ballots and a sheet at the most
+  pub most : place ≤ 7008
 
 -- "With 13 goes the first bad ranking from 1, or 0 for a wrong length; with the others 0."
 pub record JobRefusal (job : Job) (number which : ℕ) : Type 0 where

@@ -29,6 +29,8 @@ refused-not-accepted e = let z : _≡_ {A = ℕ} 0 1 = cc in omega arith
 module _ (hash : List ℕ → List ℕ) (s : List ℕ) where
   pub record GoodHeader (h : Header) : Type 0 where
     pub two : 2 ≤ h .n
+    pub eight : h .n ≤ 8
+    pub thousand : h .K ≤ 1000
     pub orders : Orders (h .n) (h .K) (h .group .p) (h .group .q)
     pub generators : Generators (h .group .p) (h .group .q) (h .group .g0) (h .group .g1)
 
@@ -44,6 +46,8 @@ module _ (hash : List ℕ → List ℕ) (s : List ℕ) where
       let o = orders-of-test _ _ _ _ (h4 .0) in
       record {
         two = leb-true 2 _ (ranges .0 .0 .0);
+        eight = leb-true _ 8 (ranges .0 .0 .1);
+        thousand = leb-true _ 1000 (ranges .1);
         orders = o;
         generators = generators-of-test hash _ _ _ o (h5 .0);
       }
