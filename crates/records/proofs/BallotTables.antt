@@ -2,24 +2,23 @@
 use Prim.Native.Nat.{ℕ, suc, _+_, _*_, _-_, _/_, _%_, _<_}
 use mathlib.Core.Path.{_≡_, _∙_}
 use mathlib.Core.Bool.{and-assoc}
-use mathlib.Core.List.{List, [], _∷_}
+use mathlib.Core.List.{List}
 use native.Mathlib.Nat.{mul-add-div-right, mul-add-mod-self-right, mod-eq-of-lt, div-eq-of-lt, add-zero}
 use native.Mathlib.Omega.{arith}
-use lib.Dec.{leb, eqb}
-use lib.ListN.{length}
 use Rattle.numbers.specs.Below.{allBelow}
 use Rattle.numbers.proofs.Tests.{all-grid, all-same, all-add}
 use Rattle.sha256.specs.Message.{sha256}
 use Rattle.group.specs.Elements.{parametersOf}
 use Rattle.rules.specs.Bytes.{half}
-use Rattle.rules.specs.Records.{BA, SH, hasMark, recordAt, recordLength, ballotLength, shiftLength}
+use Rattle.rules.specs.Records.{BA, SH, recordAt, recordLength, ballotLength, shiftLength}
 use Rattle.rules.specs.Proofs.{proofFields}
 use Rattle.rules.specs.Claims.{matrixAt, entryClaim}
-use Rattle.rules.specs.Check.{firstFault, _orElse_, recordFault, ballotFields, ballotProofs, shiftFields, shiftHolds, pairsGood}
+use Rattle.rules.specs.Check.{recordFault, ballotFields, ballotProofs, shiftFields, shiftHolds, pairsGood}
 use Rattle.statements.specs.Walks.{pairFields}
 use Rattle.records.specs.declared.Head.{Head}
 use Rattle.records.specs.Heads.{headOf}
 use Rattle.records.specs.Sizes.{ballotSize, shiftSize}
+use Rattle.records.proofs.Framing.{FiveTests}
 use Rattle.records.specs.Parts.{ballotFieldsAt, proofAt, entryGood, ballotProofsAt, shiftFieldsAt, shiftProofAt}
 
 row-of : (n i j : ℕ) → j < n → (i * n + j) / n ≡ i
@@ -54,11 +53,10 @@ module _ (s : List ℕ) (h : Head) (k at : ℕ) (e : at ≡ recordAt (h .n) (h .
   proofs-are = rw (← e, entries-are)
 
   pub ballot-table : (a : ℕ) →
-      recordFault sha256 s (headOf s h) a 0 k
-      ≡ firstFault ((leb (at + ballotSize (h .n)) (length s) orElse 1) ∷ (hasMark s at BA orElse 2) ∷ (eqb (half s (at + 2)) (k + 1) orElse 6)
-      ∷ (ballotFieldsAt s (h .n) (h .setup .group .p) (h .setup .group .q) at orElse 7) ∷ (ballotProofsAt s h at orElse 8) ∷ [])
+      FiveTests s at (ballotSize (h .n)) BA (half s (at + 2)) (k + 1) (ballotFieldsAt s (h .n) (h .setup .group .p) (h .setup .group .q) at) (ballotProofsAt s h at)
+      (recordFault sha256 s (headOf s h) a 0 k)
   unfolding recordFault recordLength ballotLength
-  ballot-table a = rw (fields-are, proofs-are, ← e)
+  ballot-table a = record { table = rw (fields-are, proofs-are, ← e) }
 
 module _ (s : List ℕ) (h : Head) (m k a at before rows : ℕ)
     (e : at ≡ recordAt (h .n) (h .k) (suc m) k) (eb : before ≡ recordAt (h .n) (h .k) m k) (er : rows ≡ h .n - suc m) where
@@ -71,8 +69,7 @@ module _ (s : List ℕ) (h : Head) (m k a at before rows : ℕ)
   shift-proof-is = rw (← e, ← eb, ← er)
 
   pub shift-table :
-      recordFault sha256 s (headOf s h) a (suc m) k
-      ≡ firstFault ((leb (at + shiftSize (h .n) rows) (length s) orElse 1) ∷ (hasMark s at SH orElse 2) ∷ (eqb (half s (at + 2)) (k + 1) orElse 6)
-      ∷ (shiftFieldsAt s (h .n) (h .setup .group .p) (h .setup .group .q) at rows orElse 7) ∷ (shiftProofAt s h before at rows (a - 1) orElse 8) ∷ [])
+      FiveTests s at (shiftSize (h .n) rows) SH (half s (at + 2)) (k + 1) (shiftFieldsAt s (h .n) (h .setup .group .p) (h .setup .group .q) at rows)
+      (shiftProofAt s h before at rows (a - 1)) (recordFault sha256 s (headOf s h) a (suc m) k)
   unfolding recordFault recordLength shiftLength
-  shift-table = rw (shift-fields-are, shift-proof-is, ← e, ← er)
+  shift-table = record { table = rw (shift-fields-are, shift-proof-is, ← e, ← er) }

@@ -33,23 +33,28 @@ module _ (s : List ℕ) (at size : ℕ) (mark : List ℕ) (shown due : ℕ) wher
       unfolding Framed
       frame-sound e = (l, m, eq-eqb shown due e)
 
-  -- the five tests of a BA or SH record
-  module _ (fields proofs : Bool) (fault : ℕ)
-      (e : fault ≡ firstFault ((leb (at + size) (length s) orElse 1) ∷ (hasMark s at mark orElse 2) ∷ (eqb shown due orElse 6) ∷ (fields orElse 7) ∷ (proofs orElse 8) ∷ [])) where
-    pub wrong-frame : (w : Refusal) → Framed s at size mark shown due (Refused w) → refusalNumber w ≡ fault
-    unfolding Framed
-    wrong-frame w f = sym (e ∙ f _)
+-- ---- the five tests of a BA or SH record
+pub record FiveTests (s : List ℕ) (at size : ℕ) (mark : List ℕ) (shown due : ℕ) (fields proofs : Bool) (fault : ℕ) : Type 0 where
+  pub table :
+      fault
+      ≡ firstFault ((leb (at + size) (length s) orElse 1) ∷ (hasMark s at mark orElse 2) ∷ (eqb shown due orElse 6) ∷ (fields orElse 7) ∷ (proofs orElse 8) ∷ [])
 
-    module _ (f : Framed s at size mark shown due Sound) where
-      pub wrong-field : fields ≡ false → 7 ≡ fault
+module _ {s : List ℕ} {at size : ℕ} {mark : List ℕ} {shown due : ℕ} {fields proofs : Bool} {fault : ℕ}
+    (t : FiveTests s at size mark shown due fields proofs fault) where
+  pub wrong-frame : (w : Refusal) → Framed s at size mark shown due (Refused w) → refusalNumber w ≡ fault
+  unfolding Framed
+  wrong-frame w f = sym (t .table ∙ f _)
+
+  module _ (f : Framed s at size mark shown due Sound) where
+    pub wrong-field : fields ≡ false → 7 ≡ fault
+    unfolding firstFault Framed
+    wrong-field b = rw (t .table, le-leb (at + size) (length s) (f .0), f .1, f .2, b)
+
+    module _ (b : fields ≡ true) where
+      pub wrong-proof : proofs ≡ false → 8 ≡ fault
       unfolding firstFault Framed
-      wrong-field b = rw (e, le-leb (at + size) (length s) (f .0), f .1, f .2, b)
+      wrong-proof p = rw (t .table, le-leb (at + size) (length s) (f .0), f .1, f .2, b, p)
 
-      module _ (b : fields ≡ true) where
-        pub wrong-proof : proofs ≡ false → 8 ≡ fault
-        unfolding firstFault Framed
-        wrong-proof p = rw (e, le-leb (at + size) (length s) (f .0), f .1, f .2, b, p)
-
-        pub all-sound : proofs ≡ true → 0 ≡ fault
-        unfolding firstFault Framed
-        all-sound p = rw (e, le-leb (at + size) (length s) (f .0), f .1, f .2, b, p)
+      pub all-sound : proofs ≡ true → 0 ≡ fault
+      unfolding firstFault Framed
+      all-sound p = rw (t .table, le-leb (at + size) (length s) (f .0), f .1, f .2, b, p)

@@ -1,16 +1,16 @@
 -- The tests of the HD record, from the values that the code read. Assumes nothing.
 use Prim.Native.Nat.{ℕ, _≤_, _<_}
-use mathlib.Core.Path.{_≡_, ap}
+use mathlib.Core.Path.{_≡_, sym, ap, _∙_}
 use mathlib.Core.Bool.{true, false}
-use mathlib.Core.List.{List}
+use mathlib.Core.List.{List, [], _∷_}
 use lib.ListN.{length, getD}
 use borrow.Author.Tests.{le-leb, lt-leb}
 use Rattle.sha256.specs.Message.{sha256}
 use Rattle.group.specs.Elements.{Parameters}
-use Rattle.rules.specs.Bytes.{word, half, part}
+use Rattle.rules.specs.Bytes.{half, part}
 use Rattle.rules.specs.Group.{sizes, orders, generators}
 use Rattle.rules.specs.Records.{HD, hasMark}
-use Rattle.rules.specs.Check.{Header, firstFault, header, headerFault, counterField}
+use Rattle.rules.specs.Check.{Header, firstFault, _orElse_, header, headerFault, counterField}
 
 module _ (s : List ℕ) where
   pub too-short : length s < 54 → headerFault sha256 s ≡ 1
@@ -22,36 +22,38 @@ module _ (s : List ℕ) where
     unfolding headerFault firstFault
     wrong-mark m = rw (le-leb 54 (length s) long, m)
 
-    module _ (mark : hasMark s 0 HD ≡ true) (n k : ℕ) (en : n ≡ getD s 2 0) (ek : k ≡ half s 3) where
-      pub wrong-sizes : sizes n k ≡ false → headerFault sha256 s ≡ 3
-      unfolding headerFault firstFault
-      wrong-sizes z = rw (le-leb 54 (length s) long, mark, ← en, ← ek, z)
+-- the mark is right, and n, k and g are what the record shows
+pub record Shown (s : List ℕ) (n k : ℕ) (g : Parameters) : Type 0 where
+  pub long : 54 ≤ length s
+  pub mark : hasMark s 0 HD ≡ true
+  pub n-is : n ≡ getD s 2 0
+  pub k-is : k ≡ half s 3
+  pub group-is : g ≡ header s .group
 
-      module _ (size : sizes n k ≡ true) (g : Parameters) (eg : g ≡ header s .group) where
-        p-is : g .p ≡ word s 5
-        unfolding header
-        p-is = ap (λ (x : Parameters). x .p) eg
+module _ {s : List ℕ} {n k : ℕ} {g : Parameters} (r : Shown s n k g) where
+  pub header-is : _≡_ {A = Header} (record { n = n; K = k; group = g; label = part s 22 32 }) (header s)
+  unfolding header
+  header-is = rw (r .n-is, r .k-is, r .group-is)
 
-        q-is : g .q ≡ word s 9
-        unfolding header
-        q-is = ap (λ (x : Parameters). x .q) eg
+  tests : headerFault sha256 s
+      ≡ firstFault ((sizes n k orElse 3) ∷ (orders n k (g .p) (g .q) orElse 4) ∷ (generators sha256 (part s 22 32) (counterField s) g orElse 5) ∷ [])
+  unfolding headerFault firstFault
+  tests = rw (le-leb 54 (length s) (r .long), r .mark) (ap (λ (H : Header). firstFault ((sizes (H .n) (H .K) orElse 3) ∷ (orders (H .n) (H .K) (H .group .p) (H .group .q) orElse 4) ∷ (generators sha256 (H .label) (counterField s) (H .group) orElse 5) ∷ [])) (sym header-is))
 
-        pub wrong-orders : orders n k (g .p) (g .q) ≡ false → headerFault sha256 s ≡ 4
-        unfolding headerFault firstFault
-        wrong-orders o = rw (le-leb 54 (length s) long, mark, ← en, ← ek, size, ← p-is, ← q-is, o)
+  pub wrong-sizes : sizes n k ≡ false → headerFault sha256 s ≡ 3
+  unfolding firstFault
+  wrong-sizes z = tests ∙ rw z
 
-        module _ (order : orders n k (g .p) (g .q) ≡ true) where
-          generators-are : generators sha256 (part s 22 32) (counterField s) (header s .group) ≡ generators sha256 (part s 22 32) (counterField s) g
-          generators-are = rw (← eg)
+  module _ (size : sizes n k ≡ true) where
+    pub wrong-orders : orders n k (g .p) (g .q) ≡ false → headerFault sha256 s ≡ 4
+    unfolding firstFault
+    wrong-orders o = tests ∙ rw (size, o)
 
-          pub wrong-generators : generators sha256 (part s 22 32) (counterField s) g ≡ false → headerFault sha256 s ≡ 5
-          unfolding headerFault firstFault
-          wrong-generators b = rw (le-leb 54 (length s) long, mark, ← en, ← ek, size, ← p-is, ← q-is, order, p-is, q-is, generators-are, b)
+    module _ (order : orders n k (g .p) (g .q) ≡ true) where
+      pub wrong-generators : generators sha256 (part s 22 32) (counterField s) g ≡ false → headerFault sha256 s ≡ 5
+      unfolding firstFault
+      wrong-generators b = tests ∙ rw (size, order, b)
 
-          pub sound-header : generators sha256 (part s 22 32) (counterField s) g ≡ true → headerFault sha256 s ≡ 0
-          unfolding headerFault firstFault
-          sound-header b = rw (le-leb 54 (length s) long, mark, ← en, ← ek, size, ← p-is, ← q-is, order, p-is, q-is, generators-are, b)
-
-      pub header-is : (g : Parameters) → g ≡ header s .group → _≡_ {A = Header} (record { n = n; K = k; group = g; label = part s 22 32 }) (header s)
-      unfolding header
-      header-is g eg = rw (en, ek, eg)
+      pub sound-header : generators sha256 (part s 22 32) (counterField s) g ≡ true → headerFault sha256 s ≡ 0
+      unfolding firstFault
+      sound-header b = tests ∙ rw (size, order, b)

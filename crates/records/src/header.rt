@@ -40,10 +40,10 @@ pub fn open(board: &[u8]) -> Opened
     }
     let n = frames::byte(board, 2);
     let k = frames::number(board, 3);
+    let group = shown(board);
     if !parameters::sizes_good(n, k) {
         return Opened::Refused(Refusal::Sizes);
     }
-    let group = shown(board);
     if !parameters::orders_good(n, k, group.p, group.q) {
         return Opened::Refused(Refusal::Orders);
     }

@@ -17,12 +17,14 @@ rounds-requires c κs = told c .2
 
 returns : tie.Need-returns
 returns c =
-    let e = board-is (now (c .before .before .before .before .before .before .args .board)) (c .before .before .opened .given .0 .0) (told (c .before)) in
+    let e = board-is (now (c .before .before .before .before .before .before .args .board)) (c .before .before .opened .given .0 .0)
+    (told (c .before)) in
     (c .rounds .ensures .0 ∙ e, c .rounds .ensures .1 ∙ ap orderOf e)
 
 returns-2 : tie.Need-returns-2
 returns-2 c =
-    let e = refused-is (now (c .before .before .before .before .before .before .args .board)) (c .before .before .opened2 .given .0 .0) (rw (c .before .before .opened2 .given .1) at (c .before .before .before .before .«open» .ensures)) in
+    let e = refused-is (now (c .before .before .before .before .before .before .args .board)) (c .before .before .opened2 .given .0 .0)
+    (rw (c .before .before .opened2 .given .1) at (c .before .before .before .before .«open» .ensures)) in
     (c .refused .ensures .0 ∙ e, c .refused .ensures .1 ∙ ap orderOf e)
 
 pub check-spec : {M : Type 1} → statement M

@@ -26,7 +26,8 @@ use Rattle.checker.proofs.rounds.Tie as tie
 abbrev Inv-loop : tie.InvT-loop
 Inv-loop board head n k count₀ stage₀ count stage =
     Placed board head stage × (count .gone .outs ≡ stage .m) × Kept count
-    × (checkFrom sha256 board (headOf board head) n start 0 0 ≡ checkFrom sha256 board (headOf board head) (n - stage .m) (standingOf n count) (stage .m) (stage .a))
+    × (checkFrom sha256 board (headOf board head) n start 0 0 ≡ checkFrom sha256 board (headOf board head) (n - stage .m) (standingOf n count)
+    (stage .m) (stage .a))
 
 abbrev μ-loop : tie.MeasureT-loop
 μ-loop board head n k count₀ stage₀ count stage = n - stage .m
@@ -34,15 +35,22 @@ abbrev μ-loop : tie.MeasureT-loop
 loop-holds : tie.Need-loop-holds Inv-loop μ-loop
 loop-holds c =
     let a = c .before .before .before .args in
-    rw (c .first .ensures)
-    (placed-first (now (a .board)) (a .h) (c .before .before .before .pre), c .before .new .ensures .0, c .before .new .ensures .1, rw (sub-zero, c .before .new .ensures .2 (a .h .n)))
+    rw (c .first .ensures) (
+      placed-first (now (a .board)) (a .h) (c .before .before .before .pre),
+      c .before .new .ensures .0,
+      c .before .new .ensures .1,
+      rw
+          (sub-zero, c .before .new .ensures .2 (a .h .n)),
+    )
 
 returns : tie.Need-returns Inv-loop μ-loop
 unfolding Rounded
 returns c =
     let a = c .before .before .before .before .before .before .before .before .before .args in
     let l = c .before .before .before .before .before .loop in
-    let x = ends (now (a .board)) (headOf (now (a .board)) (a .h)) (checkFrom sha256 (now (a .board)) (headOf (now (a .board)) (a .h)) (a .h .n) start 0 0) (standingOf (a .h .n) (l .count)) (l .stage .m) (l .stage .a) (omega (arith, l .inv .0 .round)) (l .inv .3) _
+    let x = ends (now (a .board)) (headOf (now (a .board)) (a .h))
+    (checkFrom sha256 (now (a .board)) (headOf (now (a .board)) (a .h)) (a .h .n) start 0 0) (standingOf (a .h .n) (l .count)) (l .stage .m)
+    (l .stage .a) (omega (arith, l .inv .0 .round)) (l .inv .3) _
     (rw (c .before .before .outcome .given .1) at (c .before .before .before .before .turn .ensures)) in
     (c .refused .ensures .0 ∙ sym x, c .refused .ensures .1 ∙ sym (ap orderOf x))
 
@@ -51,7 +59,9 @@ unfolding Rounded
 returns-2 c =
     let a = c .before .before .before .before .before .before .before .before .before .args in
     let l = c .before .before .before .before .before .loop in
-    let x = ends (now (a .board)) (headOf (now (a .board)) (a .h)) (checkFrom sha256 (now (a .board)) (headOf (now (a .board)) (a .h)) (a .h .n) start 0 0) (standingOf (a .h .n) (l .count)) (l .stage .m) (l .stage .a) (omega (arith, l .inv .0 .round)) (l .inv .3) _
+    let x = ends (now (a .board)) (headOf (now (a .board)) (a .h))
+    (checkFrom sha256 (now (a .board)) (headOf (now (a .board)) (a .h)) (a .h .n) start 0 0) (standingOf (a .h .n) (l .count)) (l .stage .m)
+    (l .stage .a) (omega (arith, l .inv .0 .round)) (l .inv .3) _
     (rw (c .before .before .outcome2 .given .1) at (c .before .before .before .before .turn .ensures)) in (
       c .accepted .ensures .0
           ∙ ap (λ (y : ℕ). accepted (y + 1) (standingOf (a .h .n) (l .count) .gone) (c .before .before .outcome2 .given .0 .0)) (l .inv .1) ∙ sym x,
@@ -62,7 +72,8 @@ returns-2 c =
 opens : (c : tie.After-enum-told Inv-loop μ-loop) →
     let a = c .before .before .before .before .before .before .before .args in
     let l = c .before .before .before .loop in
-    ((after : Verdict) → roundVerdict sha256 (now (a .board)) (headOf (now (a .board)) (a .h)) (standingOf (a .h .n) (l .count)) (l .stage .m) (l .stage .a) after ≡ after)
+    ((after : Verdict) → roundVerdict sha256 (now (a .board)) (headOf (now (a .board)) (a .h)) (standingOf (a .h .n) (l .count)) (l .stage .m)
+    (l .stage .a) after ≡ after)
     × (closes (a .h .n) (standingOf (a .h .n) (l .count)) (counts (now (a .board)) (headOf (now (a .board)) (a .h)) (l .stage .m)) (a .h .k) ≡ false)
     × (recordAt (a .h .n) (a .h .k) (l .stage .m) (a .h .k) + sheetLength (a .h .n) ≤ length (now (a .board)))
 unfolding Rounded
@@ -82,10 +93,12 @@ room : (c : tie.After-enum-told Inv-loop μ-loop) →
 room c = rw (placed c, ← sheet-size (c .before .before .before .before .before .before .before .args .h .n)) (opens c .2)
 
 counts-is : (c : tie.After-sheet-counts Inv-loop μ-loop) →
-    let a = c .before .before .before .before .before .before .before .before .before .before .args in countsOn (a .h .n) (c .sheet-counts .result) ≡ counts (now (a .board)) (headOf (now (a .board)) (a .h)) (c .before .before .before .before .before .before .loop .stage .m)
+    let a = c .before .before .before .before .before .before .before .before .before .before .args in countsOn (a .h .n) (c .sheet-counts .result) ≡
+    counts (now (a .board)) (headOf (now (a .board)) (a .h)) (c .before .before .before .before .before .before .loop .stage .m)
 counts-is c =
     let a = c .before .before .before .before .before .before .before .before .before .before .args in
-    c .sheet-counts .ensures ∙ sym (counts-are (now (a .board)) (a .h) (c .before .before .before .before .before .before .loop .stage .m) _ (placed (c .before .before .before)))
+    c .sheet-counts .ensures ∙ sym (counts-are (now (a .board)) (a .h) (c .before .before .before .before .before .before .loop .stage .m) _
+    (placed (c .before .before .before)))
 
 sheet-requires : tie.Need-sheet-requires Inv-loop μ-loop
 sheet-requires c κs =
@@ -95,8 +108,15 @@ sheet-requires c κs =
 
 next-requires : tie.Need-next-requires Inv-loop μ-loop
 next-requires c κs =
-    let l = c .before .before .before .before .before .before .before .before .loop in
-    (c .before .before .before .before .before .before .before .before .before .before .before .before .pre .high, omega (arith, l .inv .0 .round), omega (arith, room (c .before .before .before .before .before), c .before .before .before .before .before .before .before .before .before .before .before .before .good))
+    let l = c .before .before .before .before .before .before .before .before .loop in (
+      c .before .before .before .before .before .before .before .before .before .before .before .before .pre .high,
+      omega (arith, l .inv .0 .round),
+      omega (
+        arith,
+        room (c .before .before .before .before .before),
+        c .before .before .before .before .before .before .before .before .before .before .before .before .good,
+      ),
+    )
 
 loop-again : tie.Need-loop-again Inv-loop μ-loop
 loop-again c =
@@ -106,12 +126,15 @@ loop-again c =
     let cs = counts-is (c .before .before .before) in
     let out = c .before .before .leaves .ensures in
     rw (c .next .ensures) (
-      placed-next (now (a .board)) (a .h) (l .stage) (l .inv .0) (standingOf (a .h .n) (l .count)) (counts (now (a .board)) (headOf (now (a .board)) (a .h)) (l .stage .m))
+      placed-next (now (a .board)) (a .h) (l .stage) (l .inv .0) (standingOf (a .h .n) (l .count))
+          (counts (now (a .board)) (headOf (now (a .board)) (a .h)) (l .stage .m))
           (sheets-many (a .h .n) (l .count) (l .inv .2) ∙ l .inv .1) (o .1) (o .2) (c .before .before .leaves .result)
           (rw (out .0) (one-leaves (a .h .n) (l .count) _ (l .inv .2) (omega (arith, l .inv .1, l .inv .0 .round)))) (out .1),
       c .before .sheet .ensures .0 ∙ ap (λ (x : ℕ). x + 1) (l .inv .1),
       c .before .sheet .ensures .1,
-      goes-on (now (a .board)) (headOf (now (a .board)) (a .h)) (checkFrom sha256 (now (a .board)) (headOf (now (a .board)) (a .h)) (a .h .n) start 0 0) (standingOf (a .h .n) (l .count)) (l .stage .m) (l .stage .a) (omega (arith, l .inv .0 .round)) (l .inv .3) (o .0) _ _
+      goes-on (now (a .board)) (headOf (now (a .board)) (a .h))
+          (checkFrom sha256 (now (a .board)) (headOf (now (a .board)) (a .h)) (a .h .n) start 0 0) (standingOf (a .h .n) (l .count)) (l .stage .m)
+          (l .stage .a) (omega (arith, l .inv .0 .round)) (l .inv .3) (o .0) _ _
           (rw cs at (c .before .sheet .ensures .2)) (rw cs at (out .0)),
     )
 
@@ -119,8 +142,15 @@ pub rounds-spec : {M : Type 1} → statement M
 rounds-spec =
     tie.close
     (tie.spec Inv-loop μ-loop (λ c κs. search needs) (λ c κs. c .before .before .pre .high) loop-holds
-    (λ c κs. (c .before .before .before .before .pre, c .loop .inv .0, c .loop .inv .2)) (λ c. search needs) (λ c κs. search needs) returns (λ c. search needs)
-    (λ c κs. c .before .before .before .before .loop .inv .2) returns-2 (λ c. search needs) (λ c. omega (arith, room (c .before), c .before .before .before .before .before .before .before .before .good))
-    (λ c. omega (arith, room (c .before .before), c .before .before .before .before .before .before .before .before .before .good)) (λ c κs. (c .before .before .before .before .before .before .before .before .before .pre .high, room (c .before .before)))
-    (λ c κs. (c .before .before .before .before .before .before .loop .inv .2, c .before .before .before .before .before .before .before .before .before .before .pre .high)) sheet-requires next-requires
-    (λ c. rw (c .next .ensures) (omega (arith, c .before .before .before .before .before .before .before .before .before .loop .inv .0 .round))) loop-again)
+    (λ c κs. (c .before .before .before .before .pre, c .loop .inv .0, c .loop .inv .2)) (λ c. search needs) (λ c κs. search needs) returns
+    (λ c. search needs) (λ c κs. c .before .before .before .before .loop .inv .2) returns-2 (λ c. search needs)
+    (λ c. omega (arith, room (c .before), c .before .before .before .before .before .before .before .before .good))
+    (λ c. omega (arith, room (c .before .before), c .before .before .before .before .before .before .before .before .before .good))
+    (λ c κs. (c .before .before .before .before .before .before .before .before .before .pre .high, room (c .before .before)))
+    (λ c κs. (
+      c .before .before .before .before .before .before .loop .inv .2,
+      c .before .before .before .before .before .before .before .before .before .before .pre .high,
+    ))
+    sheet-requires next-requires
+    (λ c. rw (c .next .ensures) (omega (arith, c .before .before .before .before .before .before .before .before .before .loop .inv .0 .round)))
+    loop-again)

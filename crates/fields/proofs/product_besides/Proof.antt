@@ -24,7 +24,8 @@ loop-holds c = (omega arith, refl)
 
 -- the words read are within the slice
 fits : (c : tie.In-loop Inv-loop μ-loop) →
-    c .before .before .before .args .at + c .before .before .before .args .stride * c .before .loop .j + 4 ≤ length (now (c .before .before .before .args .s))
+    c .before .before .before .args .at + c .before .before .before .args .stride * c .before .loop .j + 4 ≤ length
+    (now (c .before .before .before .args .s))
 fits c = c .before .before .before .pre .1 (c .before .loop .j) (c .loop-test .taken)
 
 mul-as-element : tie.Need-mul-as-element Inv-loop μ-loop
@@ -53,5 +54,5 @@ returns c =
 pub product-besides-spec : {M : Type 1} → statement M
 product-besides-spec =
     tie.close
-    (tie.spec Inv-loop μ-loop (λ c. search needs) loop-holds mul-as-element add-as-element (λ c κs. fits (c .before)) (λ c κs. search needs) (λ c. omega arith)
-    (λ c. omega arith) loop-again returns)
+    (tie.spec Inv-loop μ-loop (λ c. search needs) loop-holds mul-as-element add-as-element (λ c κs. fits (c .before)) (λ c κs. search needs)
+    (λ c. omega arith) (λ c. omega arith) loop-again returns)

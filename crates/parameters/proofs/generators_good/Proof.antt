@@ -20,12 +20,20 @@ returns-2 c = rw (element (c .before), eq-eqb _ _ (c .if2 .taken))
 
 returns-3 : tie.Need-returns-3
 unfolding generators
-returns-3 c = rw (element (c .before .before .before), ne-eqb _ _ (c .before .before .if2 .left), ← c .before .derived .ensures, ne-eqb _ _ (c .if3 .taken))
+returns-3 c =
+    rw (element (c .before .before .before), ne-eqb _ _ (c .before .before .if2 .left), ← c .before .derived .ensures, ne-eqb _ _ (c .if3 .taken))
 
 returns-4 : tie.Need-returns-4
 unfolding generators
 returns-4 c =
-    rw (element (c .before .before .before .before), ne-eqb _ _ (c .before .before .before .if2 .left), ← c .before .before .derived .ensures, eq-eqb _ _ (c .before .if3 .left), eq-eqb _ _ (c .if4 .taken))
+    rw (
+      element (c .before .before .before .before),
+      ne-eqb _ _ (c .before .before .before .if2 .left),
+      ← c .before .before .derived .ensures,
+      eq-eqb
+          _ _ (c .before .if3 .left),
+      eq-eqb _ _ (c .if4 .taken),
+    )
 
 returns-5 : tie.Need-returns-5
 unfolding generators
@@ -52,6 +60,4 @@ returns-6 c =
     )
 
 pub generators-good-spec : {M : Type 1} → statement M
-generators-good-spec =
-    tie.close
-    (tie.spec (λ c κs. search needs) returns returns-2 (λ c κs. search needs) returns-3 returns-4 returns-5 returns-6)
+generators-good-spec = tie.close (tie.spec (λ c κs. search needs) returns returns-2 (λ c κs. search needs) returns-3 returns-4 returns-5 returns-6)

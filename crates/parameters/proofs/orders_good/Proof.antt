@@ -34,7 +34,13 @@ returns-4 : tie.Need-returns-4
 unfolding orders
 returns-4 c =
     let a = c .before .before .before .before .before .before .args in
-    rw (prime-p (c .before .before .before .before), prime-q (c .before .before), lt-ltb (a .p) (2 ^ 31) (omega arith), ne-eqb ((a .p - 1) % a .q) 0 (c .if4 .taken))
+    rw (
+      prime-p (c .before .before .before .before),
+      prime-q (c .before .before),
+      lt-ltb (a .p) (2 ^ 31) (omega arith),
+      ne-eqb ((a .p - 1) % a .q) 0
+          (c .if4 .taken),
+    )
 
 returns-5 : tie.Need-returns-5
 unfolding orders
@@ -65,5 +71,5 @@ pub orders-good-spec : {M : Type 1} → statement M
 orders-good-spec =
     tie.close
     (tie.spec (λ c κs. search needs) returns (λ c κs. search needs) returns-2 returns-3
-    (λ c. omega (arith, prime-large _ (prime-p (c .before .before .before)))) (λ c. omega (arith, prime-large _ (prime-q (c .before)))) returns-4 (λ c κs. search needs)
-    returns-5 returns-6)
+    (λ c. omega (arith, prime-large _ (prime-p (c .before .before .before)))) (λ c. omega (arith, prime-large _ (prime-q (c .before)))) returns-4
+    (λ c κs. search needs) returns-5 returns-6)

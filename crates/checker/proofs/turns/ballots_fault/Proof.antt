@@ -51,21 +51,27 @@ returns c =
     let l = c .before .before .before .before .before .before .before .loop in (
       c .before .before .before .before .before .before .loop-test .taken,
       first-fault (recordFault sha256 (now (a .board)) (headOf (now (a .board)) (a .h)) (a .stage .a) (a .stage .m)) (a .h .k) (l .k) _
-          (c .before .before .before .before .before .before .loop-test .taken) (l .inv .3) (rw (c .before .found .given .1) at (c .before .before .before .record-fault .ensures)) (positive (c .before .found .given .0 .0)),
+          (c .before .before .before .before .before .before .loop-test .taken) (l .inv .3)
+          (rw (c .before .found .given .1) at (c .before .before .before .record-fault .ensures)) (positive (c .before .found .given .0 .0)),
     )
 
 -- ballot k's record has no fault, and fits
 sound : (c : tie.After-enum-told Inv-loop μ-loop) →
-    let a = c .before .before .before .before .before .before .before .before .args in recordFault sha256 (now (a .board)) (headOf (now (a .board)) (a .h)) (a .stage .a) (a .stage .m) (c .before .before .before .before .before .before .loop .k) ≡ 0
+    let a = c .before .before .before .before .before .before .before .before .args in recordFault sha256 (now (a .board))
+    (headOf (now (a .board)) (a .h)) (a .stage .a) (a .stage .m) (c .before .before .before .before .before .before .loop .k) ≡ 0
 sound c = sym (rw (c .enum-told .given .1) at (c .before .before .record-fault .ensures))
 
 fitting : (c : tie.After-enum-told Inv-loop μ-loop) →
     let a = c .before .before .before .before .before .before .before .before .args in
-    (recordAt (a .h .n) (a .h .k) (a .stage .m) (c .before .before .before .before .before .before .loop .k) + recordLength (a .h .n) (a .stage .m) ≤ length (now (a .board)))
+    (recordAt (a .h .n) (a .h .k) (a .stage .m) (c .before .before .before .before .before .before .loop .k) + recordLength (a .h .n) (a .stage .m) ≤
+    length (now (a .board)))
     × (a .stage .size ≡ recordLength (a .h .n) (a .stage .m))
 fitting c =
-    let a = c .before .before .before .before .before .before .before .before .args in
-    (record-fits (now (a .board)) (headOf (now (a .board)) (a .h)) (a .stage .a) (a .stage .m) (c .before .before .before .before .before .before .loop .k) (sound c), c .before .before .before .before .before .before .before .before .pre .1 .sized)
+    let a = c .before .before .before .before .before .before .before .before .args in (
+      record-fits (now (a .board)) (headOf (now (a .board)) (a .h)) (a .stage .a) (a .stage .m)
+          (c .before .before .before .before .before .before .loop .k) (sound c),
+      c .before .before .before .before .before .before .before .before .pre .1 .sized,
+    )
 
 loop-again : tie.Need-loop-again Inv-loop μ-loop
 loop-again c =
@@ -85,6 +91,13 @@ returns-2 c =
 pub ballots-fault-spec : {M : Type 1} → statement M
 ballots-fault-spec =
     tie.close
-    (tie.spec Inv-loop μ-loop loop-holds (λ c. omega (arith, small (c .before), c .before .before .before .before .good)) (λ c. omega (arith, small (c .before .before), c .before .before .before .before .before .good))
-    record-fault-requires (λ c. search needs) returns (λ c. search needs) (λ c. omega (arith, fitting (c .before), c .before .before .before .before .before .before .before .loop .inv .1, c .before .before .before .before .before .before .before .before .before .good))
+    (tie.spec Inv-loop μ-loop loop-holds (λ c. omega (arith, small (c .before), c .before .before .before .before .good))
+    (λ c. omega (arith, small (c .before .before), c .before .before .before .before .before .good)) record-fault-requires (λ c. search needs) returns
+    (λ c. search needs)
+    (λ c. omega (
+      arith,
+      fitting (c .before),
+      c .before .before .before .before .before .before .before .loop .inv .1,
+      c .before .before .before .before .before .before .before .before .before .good,
+    ))
     (λ c. omega arith) (λ c. omega arith) loop-again returns-2)

@@ -26,7 +26,8 @@ refused : (c : tie.After-known-told) →
     let a = c .before .before .before .before .before .args in
     let j = c .before .found .given .0 .1 .0 in
     (j < a .h .k)
-    × (faultBelow (a .h .k) (recordFault sha256 (now (a .board)) (headOf (now (a .board)) (a .h)) (a .stage .a) (a .stage .m)) ≡ some (j, refusalNumber (c .before .found .given .0 .0)))
+    × (faultBelow (a .h .k) (recordFault sha256 (now (a .board)) (headOf (now (a .board)) (a .h)) (a .stage .a) (a .stage .m)) ≡ some
+    (j, refusalNumber (c .before .found .given .0 .0)))
 unfolding Searched
 refused c = rw (c .before .found .given .1) at (c .before .before .before .ballots-fault .ensures)
 
@@ -40,7 +41,9 @@ none-found c = rw (c .enum-told .given .1) at (c .before .before .ballots-fault 
 -- the sheet's place
 placed : (c : tie.After-enum-told) →
     let a = c .before .before .before .before .args in a .stage .at + a .h .k * a .stage .size ≡ recordAt (a .h .n) (a .h .k) (a .stage .m) (a .h .k)
-placed c = let a = c .before .before .before .before .args in sheet-at (now (a .board)) (a .h) (a .stage) (c .before .before .before .before .pre .1)
+placed c =
+    let a = c .before .before .before .before .args in
+    sheet-at (now (a .board)) (a .h) (a .stage) (c .before .before .before .before .pre .1)
 
 ends : (c : tie.After-enum-told) →
     let a = c .before .before .before .before .args in
@@ -59,13 +62,15 @@ fine : (c : tie.After-enum-told2) →
 fine c = rw (c .enum-told2 .given .1) at (c .before .before .sheet-fault .ensures)
 
 fits-there : (c : tie.After-enum-told2) →
-    let a = c .before .before .before .before .before .before .before .before .before .args in recordAt (a .h .n) (a .h .k) (a .stage .m) (a .h .k) + sheetLength (a .h .n) ≤ length (now (a .board))
+    let a = c .before .before .before .before .before .before .before .before .before .args in recordAt (a .h .n) (a .h .k) (a .stage .m) (a .h .k) +
+    sheetLength (a .h .n) ≤ length (now (a .board))
 fits-there c =
     let a = c .before .before .before .before .before .before .before .before .before .args in
     sheet-fits (now (a .board)) (headOf (now (a .board)) (a .h)) (a .stage .m) _ (sym (fine c))
 
 room : (c : tie.After-enum-told2) →
-    let a = c .before .before .before .before .before .before .before .before .before .args in a .stage .at + a .h .k * a .stage .size + sheetSize (a .h .n) ≤ length (now (a .board))
+    let a = c .before .before .before .before .before .before .before .before .before .args in a .stage .at + a .h .k * a .stage .size + sheetSize
+    (a .h .n) ≤ length (now (a .board))
 room c = rw (ends (c .before .before .before .before .before)) (fits-there c)
 
 counts-is : (c : tie.After-sheet-counts) →
@@ -77,7 +82,8 @@ counts-is c =
 
 closing : (c : tie.After-closes) →
     let a = c .before .before .before .before .before .before .before .before .before .before .before .args in
-    closes (a .h .n) (standingOf (a .h .n) (a .count)) (counts (now (a .board)) (headOf (now (a .board)) (a .h)) (a .stage .m)) (a .h .k) ≡ c .closes .result
+    closes (a .h .n) (standingOf (a .h .n) (a .count)) (counts (now (a .board)) (headOf (now (a .board)) (a .h)) (a .stage .m)) (a .h .k) ≡
+    c .closes .result
 closing c = rw (← counts-is (c .before)) (sym (c .closes .ensures))
 
 record-number-requires : tie.Need-record-number-requires
@@ -89,7 +95,9 @@ returns : tie.Need-returns
 unfolding Rounded
 returns c =
     let a = c .before .before .before .before .before .before .args in
-    λ after. rw (c .record-number .ensures .0) (ballot-refused (now (a .board)) (headOf (now (a .board)) (a .h)) (standingOf (a .h .n) (a .count)) (a .stage .m) (a .stage .a) after _ _ (refused (c .before) .1))
+    λ after. rw (c .record-number .ensures .0) (ballot-refused (now (a .board)) (headOf (now (a .board)) (a .h)) (standingOf (a .h .n) (a .count))
+    (a .stage .m) (a .stage .a) after
+    _ _ (refused (c .before) .1))
 
 sheet-fault-requires : tie.Need-sheet-fault-requires
 sheet-fault-requires c κs =
@@ -102,14 +110,20 @@ returns-2 c =
     let a = c .before .before .before .before .before .before .before .before .before .before .before .args in
     λ after.
     rw (c .record-number2 .ensures .0)
-    (sheet-refused (now (a .board)) (headOf (now (a .board)) (a .h)) (standingOf (a .h .n) (a .count)) (a .stage .m) (a .stage .a) after (none-found (c .before .before .before .before .before .before .before) .0) _ (rw (c .before .before .fault .given .1) at (c .before .before .before .before .sheet-fault .ensures)) (positive (c .before .before .fault .given .0 .0)))
+    (sheet-refused (now (a .board)) (headOf (now (a .board)) (a .h)) (standingOf (a .h .n) (a .count)) (a .stage .m) (a .stage .a) after
+    (none-found (c .before .before .before .before .before .before .before) .0) _
+    (rw (c .before .before .fault .given .1) at (c .before .before .before .before .sheet-fault .ensures))
+    (positive (c .before .before .fault .given .0 .0)))
 
 returns-3 : tie.Need-returns-3
 unfolding Rounded
 returns-3 c =
     let a = c .before .before .before .before .before .before .before .before .before .before .before .before .before .before .args in
     λ after.
-    closed (now (a .board)) (headOf (now (a .board)) (a .h)) (standingOf (a .h .n) (a .count)) (a .stage .m) (a .stage .a) after (none-found (c .before .before .before .before .before .before .before .before .before .before) .0) (fine (c .before .before .before .before .before)) (closing (c .before .before .before) ∙ c .before .before .if1 .taken) _ (c .before .if2 .taken ∙ ends (c .before .before .before .before .before .before .before .before .before .before))
+    closed (now (a .board)) (headOf (now (a .board)) (a .h)) (standingOf (a .h .n) (a .count)) (a .stage .m) (a .stage .a) after
+    (none-found (c .before .before .before .before .before .before .before .before .before .before) .0)
+    (fine (c .before .before .before .before .before)) (closing (c .before .before .before) ∙ c .before .before .if1 .taken) _
+    (omega (arith, ends (c .before .before .before .before .before .before .before .before .before .before)))
     (rw (← counts-is (c .before .before .before .before)) (c .wins .ensures .0))
 
 returns-4 : tie.Need-returns-4
@@ -118,22 +132,52 @@ returns-4 c =
     let a = c .before .before .before .before .before .before .before .before .before .before .before .before .before .before .args in
     λ after.
     rw (c .record-number3 .ensures .0)
-    (remains (now (a .board)) (headOf (now (a .board)) (a .h)) (standingOf (a .h .n) (a .count)) (a .stage .m) (a .stage .a) after (none-found (c .before .before .before .before .before .before .before .before .before .before) .0) (fine (c .before .before .before .before .before)) (closing (c .before .before .before) ∙ c .before .before .if1 .taken) (λ e. c .before .if2 .left (e ∙ sym (ends (c .before .before .before .before .before .before .before .before .before .before)))))
+    (remains (now (a .board)) (headOf (now (a .board)) (a .h)) (standingOf (a .h .n) (a .count)) (a .stage .m) (a .stage .a) after
+    (none-found (c .before .before .before .before .before .before .before .before .before .before) .0)
+    (fine (c .before .before .before .before .before)) (closing (c .before .before .before) ∙ c .before .before .if1 .taken)
+    (λ e. omega (arith, ends (c .before .before .before .before .before .before .before .before .before .before))))
 
 returns-5 : tie.Need-returns-5
 unfolding Rounded
 returns-5 c =
     let a = c .before .before .before .before .before .before .before .before .before .before .before .before .args in
-    let open-still = closing (c .before) ∙ c .if1 .left in
-    (λ after. stays-open (now (a .board)) (headOf (now (a .board)) (a .h)) (standingOf (a .h .n) (a .count)) (a .stage .m) (a .stage .a) after (none-found (c .before .before .before .before .before .before .before .before) .0) (fine (c .before .before .before)) open-still, open-still, fits-there (c .before .before .before))
+    let open-still = closing (c .before) ∙ c .if1 .left in (
+      λ after. stays-open (now (a .board)) (headOf (now (a .board)) (a .h)) (standingOf (a .h .n) (a .count)) (a .stage .m) (a .stage .a) after
+          (none-found (c .before .before .before .before .before .before .before .before) .0) (fine (c .before .before .before)) open-still,
+      open-still,
+      fits-there (c .before .before .before),
+    )
 
 pub turn-spec : {M : Type 1} → statement M
 turn-spec =
     tie.close
-    (tie.spec (λ c κs. search needs) (λ c. search needs) record-number-requires returns (λ c. search needs) (λ c. omega (arith, small (c .before), c .before .before .before .before .before .good))
+    (tie.spec (λ c κs. search needs) (λ c. search needs) record-number-requires returns (λ c. search needs)
+    (λ c. omega (arith, small (c .before), c .before .before .before .before .before .good))
     (λ c. omega (arith, small (c .before .before), c .before .before .before .before .before .before .good)) sheet-fault-requires (λ c. search needs)
-    (λ c κs. (c .before .before .before .before .before .before .before .before .before .before .pre .0 .few, omega (arith, c .before .before .before .before .before .before .before .before .before .before .pre .0 .high, c .before .before .before .before .before .before .before .before .before .before .pre .1 .round), omega arith)) returns-2 (λ c. search needs)
-    (λ c κs. (c .before .before .before .before .before .before .before .before .before .pre .0 .high, room c)) (λ c. search needs) (λ c κs. search needs) (λ c. search needs) (λ c. search needs)
-    (λ c. omega (arith, room (c .before .before .before), c .before .before .before .before .before .before .before .before .before .before .before .before .good)) (λ c κs. search needs) returns-3
-    (λ c κs. (c .before .before .before .before .before .before .before .before .before .before .before .before .before .pre .0 .few, omega (arith, c .before .before .before .before .before .before .before .before .before .before .before .before .before .pre .0 .high, c .before .before .before .before .before .before .before .before .before .before .before .before .before .pre .1 .round), omega arith))
+    (λ c κs. (
+      c .before .before .before .before .before .before .before .before .before .before .pre .0 .few,
+      omega (
+        arith,
+        c .before .before .before .before .before .before .before .before .before .before .pre .0 .high,
+        c .before .before .before .before .before .before .before .before .before .before .pre .1 .round,
+      ),
+      omega arith,
+    ))
+    returns-2 (λ c. search needs) (λ c κs. (c .before .before .before .before .before .before .before .before .before .pre .0 .high, room c))
+    (λ c. search needs) (λ c κs. search needs) (λ c. search needs) (λ c. search needs)
+    (λ c. omega (
+      arith,
+      room (c .before .before .before),
+      c .before .before .before .before .before .before .before .before .before .before .before .before .good,
+    ))
+    (λ c κs. search needs) returns-3
+    (λ c κs. (
+      c .before .before .before .before .before .before .before .before .before .before .before .before .before .pre .0 .few,
+      omega (
+        arith,
+        c .before .before .before .before .before .before .before .before .before .before .before .before .before .pre .0 .high,
+        c .before .before .before .before .before .before .before .before .before .before .before .before .before .pre .1 .round,
+      ),
+      omega arith,
+    ))
     (λ c. omega (arith, c .record-number3 .ensures .1)) returns-4 returns-5)

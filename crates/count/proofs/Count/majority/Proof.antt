@@ -53,5 +53,5 @@ returns-2 c =
 pub majority-spec : {M : Type 1} → statement M
 majority-spec =
     tie.close
-    (tie.spec Inv-loop μ-loop loop-holds (λ c. omega arith) (λ c κs. c .before .before .before .before .pre .0 .listed) (λ c. omega arith) (λ c. omega arith) (λ c κs. search needs) returns
-    (λ c. omega arith) (λ c. omega arith) loop-again returns-2)
+    (tie.spec Inv-loop μ-loop loop-holds (λ c. omega arith) (λ c κs. c .before .before .before .before .pre .0 .listed) (λ c. omega arith)
+    (λ c. omega arith) (λ c κs. search needs) returns (λ c. omega arith) (λ c. omega arith) loop-again returns-2)

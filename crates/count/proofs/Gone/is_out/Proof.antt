@@ -21,12 +21,16 @@ loop-holds c = (omega arith, member-none _ (c .before .args .self .order))
 returns : tie.Need-returns Inv-loop μ-loop
 returns c =
     let a = c .before .before .before .before .before .args in
-    sym (member-found (a .c) (a .self .order) (c .before .before .before .loop .i) (a .self .outs) (c .before .before .loop-test .taken) (omega arith) (sym (c .before .wide .ensures) ∙ c .if1 .taken))
+    sym (member-found (a .c) (a .self .order) (c .before .before .before .loop .i) (a .self .outs) (c .before .before .loop-test .taken) (omega arith)
+    (sym (c .before .wide .ensures) ∙ c .if1 .taken))
 
 loop-again : tie.Need-loop-again Inv-loop μ-loop
 loop-again c =
-    let a = c .before .before .before .before .before .args in
-    (omega arith, member-more (a .c) (a .self .order) (c .before .before .before .loop .i) (omega arith) (c .before .before .before .loop .inv .1) (λ e. c .if1 .left (c .before .wide .ensures ∙ e)))
+    let a = c .before .before .before .before .before .args in (
+      omega arith,
+      member-more (a .c) (a .self .order) (c .before .before .before .loop .i) (omega arith) (c .before .before .before .loop .inv .1)
+          (λ e. c .if1 .left (c .before .wide .ensures ∙ e)),
+    )
 
 returns-2 : tie.Need-returns-2 Inv-loop μ-loop
 returns-2 c =
@@ -37,4 +41,5 @@ returns-2 c =
 pub is-out-spec : {M : Type 1} → statement M
 is-out-spec =
     tie.close
-    (tie.spec Inv-loop μ-loop loop-holds (λ c. search needs) (λ c κs. search needs) returns (λ c. omega arith) (λ c. omega arith) loop-again returns-2)
+    (tie.spec Inv-loop μ-loop loop-holds (λ c. search needs) (λ c κs. search needs) returns (λ c. omega arith) (λ c. omega arith) loop-again
+    returns-2)

@@ -25,13 +25,15 @@ returns-3 : tie.Need-returns-3
 returns-3 c =
     let a = c .before .before .before .before .before .before .args in
     frame-number (now (a .board)) (a .at) (a .size) (a .c ∷ a .d ∷ []) (half (now (a .board)) (a .at + 2)) (a .due) (omega arith)
-    (sym (c .before .before .before .has-mark .ensures) ∙ not-false _ (c .before .before .if2 .left)) (λ e. c .if3 .taken (c .before .number .ensures ∙ e))
+    (sym (c .before .before .before .has-mark .ensures) ∙ not-false _ (c .before .before .if2 .left))
+    (λ e. c .if3 .taken (c .before .number .ensures ∙ e))
 
 returns-4 : tie.Need-returns-4
 returns-4 c =
     let a = c .before .before .before .before .before .before .args in
     frame-sound (now (a .board)) (a .at) (a .size) (a .c ∷ a .d ∷ []) (half (now (a .board)) (a .at + 2)) (a .due) (omega arith)
-    (sym (c .before .before .before .has-mark .ensures) ∙ not-false _ (c .before .before .if2 .left)) (sym (c .before .number .ensures) ∙ c .if3 .left)
+    (sym (c .before .before .before .has-mark .ensures) ∙ not-false _ (c .before .before .if2 .left))
+    (sym (c .before .number .ensures) ∙ c .if3 .left)
 
 pub ballot-frame-spec : {M : Type 1} → statement M
 ballot-frame-spec =

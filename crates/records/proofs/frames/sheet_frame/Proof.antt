@@ -26,7 +26,8 @@ returns-3 : tie.Need-returns-3
 returns-3 c =
     let a = c .before .before .before .before .before .before .args in
     frame-number (now (a .board)) (a .at) (sheetSize (a .n)) (RT) (getD (now (a .board)) (a .at + 2) 0) (a .round) (omega arith)
-    (sym (c .before .before .before .has-mark .ensures) ∙ not-false _ (c .before .before .if2 .left)) (λ e. c .if3 .taken (c .before .byte .ensures ∙ e))
+    (sym (c .before .before .before .has-mark .ensures) ∙ not-false _ (c .before .before .if2 .left))
+    (λ e. c .if3 .taken (c .before .byte .ensures ∙ e))
 
 returns-4 : tie.Need-returns-4
 returns-4 c =
@@ -37,4 +38,5 @@ returns-4 c =
 pub sheet-frame-spec : {M : Type 1} → statement M
 sheet-frame-spec =
     tie.close
-    (tie.spec (λ c. search needs) (λ c. search needs) (λ c. search needs) returns (λ c κs. search needs) returns-2 (λ c. search needs) (λ c κs. search needs) returns-3 returns-4)
+    (tie.spec (λ c. search needs) (λ c. search needs) (λ c. search needs) returns (λ c κs. search needs) returns-2 (λ c. search needs)
+    (λ c κs. search needs) returns-3 returns-4)

@@ -8,28 +8,38 @@ use Rattle.sha256.specs.Message.{sha256}
 use Rattle.group.specs.Elements.{parametersOf}
 use Rattle.rules.specs.Bytes.{part}
 use Rattle.rules.specs.Group.{sizes, orders, generators}
-use Rattle.rules.specs.Records.{HD, hasMark}
 use Rattle.rules.specs.Check.{counterField}
 use Rattle.parameters.proofs.Rules.{orders-positive, sizes-bounds}
 use Rattle.records.specs.Heads.{Opening}
-use Rattle.records.proofs.HeaderTable.{too-short, wrong-mark, wrong-sizes, wrong-orders, wrong-generators, sound-header, header-is}
+use Rattle.records.proofs.HeaderTable.{Shown, too-short, wrong-mark, wrong-sizes, wrong-orders, wrong-generators, sound-header, header-is}
 use Rattle.records.proofs.header.open.Statement.{statement}
 use Rattle.records.proofs.header.open.Tie as tie
 
--- what the tests passed so far say
-marked : (c : tie.Else2) → hasMark (now (c .before .before .before .before .args .board)) 0 HD ≡ true
-marked c = sym (c .before .has-mark .ensures) ∙ not-false _ (c .if2 .left)
+-- what is read, and what the tests passed so far say
+read : (c : tie.After-shown) →
+    Shown (now (c .before .before .before .before .before .before .before .args .board)) (c .before .before .byte .result) (c .before .number .result)
+    (parametersOf (c .shown .result))
+read c =
+    record {
+      long = omega arith;
+      mark = sym (c .before .before .before .before .has-mark .ensures) ∙ not-false _ (c .before .before .before .if2 .left);
+      n-is = c .before .before .byte .ensures;
+      k-is = c .before .number .ensures;
+      group-is = c .shown .ensures;
+    }
 
-sized : (c : tie.Else3) → sizes (c .before .before .before .byte .result) (c .before .before .number .result) ≡ true
+sized : (c : tie.Else3) → sizes (c .before .before .before .before .byte .result) (c .before .before .before .number .result) ≡ true
 sized c = sym (c .before .sizes-good .ensures) ∙ not-false _ (c .if3 .left)
 
 ordered : (c : tie.Else4) →
-    orders (c .before .before .before .before .before .before .byte .result) (c .before .before .before .before .before .number .result) (c .before .before .shown .result .p) (c .before .before .shown .result .q) ≡ true
+    let g = c .before .before .before .before .shown .result in orders (c .before .before .before .before .before .before .byte .result)
+    (c .before .before .before .before .before .number .result) (g .p) (g .q) ≡ true
 ordered c = sym (c .before .orders-good .ensures) ∙ not-false _ (c .if4 .left)
 
 generated : (c : tie.After-generators-good) →
     let s = now (c .before .before .before .before .before .before .before .before .before .before .before .before .before .before .args .board) in
-    c .generators-good .result ≡ generators sha256 (part s 22 32) (counterField s) (parametersOf (c .before .before .before .before .before .shown .result))
+    c .generators-good .result ≡ generators sha256 (part s 22 32) (counterField s)
+    (parametersOf (c .before .before .before .before .before .before .before .shown .result))
 generated c = c .generators-good .ensures
 
 returns : tie.Need-returns
@@ -38,43 +48,44 @@ returns c = too-short (now (c .before .before .args .board)) (omega arith)
 
 returns-2 : tie.Need-returns-2
 unfolding Opening
-returns-2 c = wrong-mark (now (c .before .before .before .before .args .board)) (omega arith) (sym (c .before .has-mark .ensures) ∙ not-true _ (c .if2 .taken))
+returns-2 c =
+    wrong-mark (now (c .before .before .before .before .args .board)) (omega arith) (sym (c .before .has-mark .ensures) ∙ not-true _ (c .if2 .taken))
 
 returns-3 : tie.Need-returns-3
 unfolding Opening
-returns-3 c =
-    wrong-sizes (now (c .before .before .before .before .before .before .before .before .args .board)) (omega arith) (marked (c .before .before .before .before)) _ _ (c .before .before .before .byte .ensures) (c .before .before .number .ensures)
-    (sym (c .before .sizes-good .ensures) ∙ not-true _ (c .if3 .taken))
+returns-3 c = wrong-sizes (read (c .before .before)) (sym (c .before .sizes-good .ensures) ∙ not-true _ (c .if3 .taken))
 
 returns-4 : tie.Need-returns-4
 unfolding Opening
 returns-4 c =
-    wrong-orders (now (c .before .before .before .before .before .before .before .before .before .before .before .args .board)) (omega arith) (marked (c .before .before .before .before .before .before .before)) _ _ (c .before .before .before .before .before .before .byte .ensures) (c .before .before .before .before .before .number .ensures)
-    (sized (c .before .before .before)) (parametersOf (c .before .before .shown .result)) (c .before .before .shown .ensures) (sym (c .before .orders-good .ensures) ∙ not-true _ (c .if4 .taken))
+    wrong-orders (read (c .before .before .before .before)) (sized (c .before .before))
+    (sym (c .before .orders-good .ensures) ∙ not-true _ (c .if4 .taken))
 
 returns-5 : tie.Need-returns-5
 unfolding Opening
 returns-5 c =
-    wrong-generators (now (c .before .before .before .before .before .before .before .before .before .before .before .before .before .before .before .args .board)) (omega arith) (marked (c .before .before .before .before .before .before .before .before .before .before .before)) _ _ (c .before .before .before .before .before .before .before .before .before .before .byte .ensures) (c .before .before .before .before .before .before .before .before .before .number .ensures)
-    (sized (c .before .before .before .before .before .before .before)) (parametersOf (c .before .before .before .before .before .before .shown .result)) (c .before .before .before .before .before .before .shown .ensures) (ordered (c .before .before .before .before))
+    wrong-generators (read (c .before .before .before .before .before .before .before .before))
+    (sized (c .before .before .before .before .before .before)) (ordered (c .before .before .before .before))
     (sym (generated (c .before)) ∙ not-true _ (c .if5 .taken))
 
 returns-6 : tie.Need-returns-6
 unfolding Opening
 returns-6 c =
-    let s = now (c .before .before .before .before .before .before .before .before .before .before .before .before .before .before .before .before .args .board) in
-    let g = parametersOf (c .before .before .before .before .before .before .before .shown .result) in
-    let r = sizes-bounds (c .before .before .before .before .before .before .before .before .before .before .before .byte .result) (c .before .before .before .before .before .before .before .before .before .before .number .result) (sized (c .before .before .before .before .before .before .before .before)) in (
-      sound-header s (omega arith) (marked (c .before .before .before .before .before .before .before .before .before .before .before .before)) _ _ (c .before .before .before .before .before .before .before .before .before .before .before .byte .ensures) (c .before .before .before .before .before .before .before .before .before .before .number .ensures) (sized (c .before .before .before .before .before .before .before .before)) g
-          (c .before .before .before .before .before .before .before .shown .ensures) (ordered (c .before .before .before .before .before)) (sym (generated (c .before .before)) ∙ not-false _ (c .before .if5 .left)),
-      rw (c .new .ensures .0)
-          (header-is s (omega arith) (marked (c .before .before .before .before .before .before .before .before .before .before .before .before)) _ _ (c .before .before .before .before .before .before .before .before .before .before .before .byte .ensures) (c .before .before .before .before .before .before .before .before .before .before .number .ensures) g (c .before .before .before .before .before .before .before .shown .ensures)),
-      record { ready = c .new .ensures .1; low = r .0; high = r .1; some = r .2; few = r .3; long = omega arith },
+    let shown = read (c .before .before .before .before .before .before .before .before .before) in
+    let size = sized (c .before .before .before .before .before .before .before) in
+    let bounds = sizes-bounds (c .before .before .before .before .before .before .before .before .before .before .before .byte .result)
+    (c .before .before .before .before .before .before .before .before .before .before .number .result) size in (
+      sound-header shown size (ordered (c .before .before .before .before .before))
+          (sym (generated (c .before .before)) ∙ not-false _ (c .before .if5 .left)),
+      rw (c .new .ensures .0) (header-is shown),
+      record { ready = c .new .ensures .1; low = bounds .0; high = bounds .1; some = bounds .2; few = bounds .3; long = shown .long },
     )
 
 pub open-spec : {M : Type 1} → statement M
 open-spec =
     tie.close
-    (tie.spec returns (λ c κs. search needs) returns-2 (λ c κs. search needs) (λ c κs. search needs) (λ c κs. search needs) returns-3
-    (λ c κs. search needs) (λ c κs. search needs) returns-4 (λ c. search needs) (λ c. search needs) (λ c. search needs) (λ c. search needs)
-    (λ c κs. orders-positive _ _ _ _ (ordered (c .before .before))) returns-5 (λ c κs. orders-positive _ _ _ _ (ordered (c .before .before .before .before))) returns-6)
+    (tie.spec returns (λ c κs. search needs) returns-2 (λ c κs. search needs) (λ c κs. search needs) (λ c κs. search needs) (λ c κs. search needs)
+    returns-3
+    (λ c κs. search needs) returns-4 (λ c. search needs) (λ c. search needs) (λ c. search needs) (λ c. search needs)
+    (λ c κs. orders-positive _ _ _ _ (ordered (c .before .before))) returns-5
+    (λ c κs. orders-positive _ _ _ _ (ordered (c .before .before .before .before))) returns-6)

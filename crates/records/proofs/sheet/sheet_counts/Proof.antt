@@ -29,10 +29,13 @@ loop-again c =
     )
 
 returns : tie.Need-returns Inv-loop μ-loop
-returns c = let e : c .before .loop .i ≡ c .before .before .before .args .n = omega arith in rw e at (c .before .loop .inv .2)
+returns c =
+    let e : c .before .loop .i ≡ c .before .before .before .args .n = omega arith in
+    rw e at (c .before .loop .inv .2)
 
 pub sheet-counts-spec : {M : Type 1} → statement M
 sheet-counts-spec =
     tie.close
-    (tie.spec Inv-loop μ-loop loop-holds (λ c. omega (arith, c .before .before .before .good)) (λ c. omega (arith, c .before .before .before .good)) (λ c. omega (arith, c .before .before .before .good))
-    (λ c κs. omega arith) (λ c. omega arith) (λ c. omega arith) (λ c. omega arith) (λ c. omega arith) loop-again returns)
+    (tie.spec Inv-loop μ-loop loop-holds (λ c. omega (arith, c .before .before .before .good)) (λ c. omega (arith, c .before .before .before .good))
+    (λ c. omega (arith, c .before .before .before .good)) (λ c κs. omega arith) (λ c. omega arith) (λ c. omega arith) (λ c. omega arith)
+    (λ c. omega arith) loop-again returns)

@@ -20,7 +20,8 @@ use Rattle.records.proofs.sheet.sheet_fault.Tie as tie
 
 -- what the tests passed so far say
 framed : (c : tie.After-enum-told) →
-    let a = c .before .before .before .before .args in Framed (now (a .board)) (a .at) (sheetSize (a .h .n)) RT (getD (now (a .board)) (a .at + 2) 0) (a .m + 1) Sound
+    let a = c .before .before .before .before .args in Framed (now (a .board)) (a .at) (sheetSize (a .h .n)) RT (getD (now (a .board)) (a .at + 2) 0)
+    (a .m + 1) Sound
 framed c = rw (c .enum-told .given .1) at (c .before .before .sheet-frame .ensures)
 
 counted : (c : tie.After-enum-told2) → let a = c .before .before .before .before .before .before .before .args in Counted (now (a .board)) (a .h) (a .m) Sound
@@ -29,19 +30,27 @@ counted c = rw (c .enum-told2 .given .1) at (c .before .before .sheet-fields .en
 tallied : (c : tie.After-tallies) → let a = c .before .before .before .before .before .before .before .before .args in tallies (now (a .board)) (headOf (now (a .board)) (a .h)) (a .m) ≡ c .tallies .result
 tallied c =
     let a = c .before .before .before .before .before .before .before .before .args in
-    tallies-are (now (a .board)) (a .h) (a .m) (a .at) (c .before .before .before .before .before .before .before .before .pre .1 .0) (a .first) (a .size) (c .before .before .before .before .before .before .before .before .pre .1 .1) (c .before .before .before .before .before .before .before .before .pre .1 .2) ∙ sym (c .tallies .ensures)
+    tallies-are (now (a .board)) (a .h) (a .m) (a .at) (c .before .before .before .before .before .before .before .before .pre .1 .0) (a .first)
+    (a .size) (c .before .before .before .before .before .before .before .before .pre .1 .1)
+    (c .before .before .before .before .before .before .before .before .pre .1 .2) ∙ sym (c .tallies .ensures)
 
 dues : (c : tie.After-due-out) →
     let a = c .before .before .before .before .before .before .before .before .before .before .before .before .args in
     let H = headOf (now (a .board)) (a .h) in c .due-out .result ≡ due H (standingOf (a .h .n) (a .count)) (counts (now (a .board)) H (a .m))
 dues c =
     let a = c .before .before .before .before .before .before .before .before .before .before .before .before .args in
-    rw (counts-are (now (a .board)) (a .h) (a .m) (a .at) (c .before .before .before .before .before .before .before .before .before .before .before .before .pre .1 .0), ← c .before .before .sheet-counts .ensures) (c .due-out .ensures)
+    rw (
+      counts-are (now (a .board)) (a .h) (a .m) (a .at)
+          (c .before .before .before .before .before .before .before .before .before .before .before .before .pre .1 .0),
+      ←
+          c .before .before .sheet-counts .ensures,
+    ) (c .due-out .ensures)
 
 returns : tie.Need-returns
 returns c =
     let a = c .before .before .before .before .before .args in
-    wrong-frame (now (a .board)) (a .h) (a .m) (a .at) (c .before .before .before .before .before .pre .1 .0) _ _ (rw (c .before .framed .given .1) at (c .before .before .before .sheet-frame .ensures))
+    wrong-frame (now (a .board)) (a .h) (a .m) (a .at) (c .before .before .before .before .before .pre .1 .0) _ _
+    (rw (c .before .framed .given .1) at (c .before .before .before .sheet-frame .ensures))
 
 sheet-fields-requires : tie.Need-sheet-fields-requires
 unfolding Framed
@@ -50,7 +59,8 @@ sheet-fields-requires c κs = (c .before .before .before .before .pre .0 .0, c .
 returns-2 : tie.Need-returns-2
 returns-2 c =
     let a = c .before .before .before .before .before .before .before .before .args in
-    wrong-fields (now (a .board)) (a .h) (a .m) (a .at) (c .before .before .before .before .before .before .before .before .pre .1 .0) _ (framed (c .before .before .before .before)) _ (rw (c .before .walked .given .1) at (c .before .before .before .sheet-fields .ensures))
+    wrong-fields (now (a .board)) (a .h) (a .m) (a .at) (c .before .before .before .before .before .before .before .before .pre .1 .0) _
+    (framed (c .before .before .before .before)) _ (rw (c .before .walked .given .1) at (c .before .before .before .sheet-fields .ensures))
 
 tallies-requires : tie.Need-tallies-requires
 unfolding Framed recordAt
@@ -65,11 +75,16 @@ tallies-requires c κs =
 returns-3 : tie.Need-returns-3
 returns-3 c =
     let a = c .before .before .before .before .before .before .before .before .before .args in
-    wrong-tally (now (a .board)) (a .h) (a .m) (a .at) (c .before .before .before .before .before .before .before .before .before .pre .1 .0) _ (framed (c .before .before .before .before .before)) (counted (c .before .before)) (tallied (c .before) ∙ not-true _ (c .if1 .taken))
+    wrong-tally (now (a .board)) (a .h) (a .m) (a .at) (c .before .before .before .before .before .before .before .before .before .pre .1 .0) _
+    (framed (c .before .before .before .before .before)) (counted (c .before .before)) (tallied (c .before) ∙ not-true _ (c .if1 .taken))
 
 sheet-counts-requires : tie.Need-sheet-counts-requires
 unfolding Framed
-sheet-counts-requires c κs = (c .before .before .before .before .before .before .before .before .before .pre .0 .0 .high, framed (c .before .before .before .before .before) .0)
+sheet-counts-requires c κs = (
+  c .before .before .before .before .before .before .before .before .before .pre .0 .0 .high,
+  framed
+      (c .before .before .before .before .before) .0,
+)
 
 byte-requires : tie.Need-byte-requires
 unfolding Framed
@@ -90,5 +105,6 @@ returns-5 c =
 pub sheet-fault-spec : {M : Type 1} → statement M
 sheet-fault-spec =
     tie.close
-    (tie.spec (λ c. search needs) (λ c κs. search needs) (λ c. search needs) returns (λ c. search needs) sheet-fields-requires (λ c. search needs) returns-2
-    (λ c. search needs) tallies-requires returns-3 sheet-counts-requires (λ c. search needs) byte-requires (λ c κs. search needs) returns-4 returns-5)
+    (tie.spec (λ c. search needs) (λ c κs. search needs) (λ c. search needs) returns (λ c. search needs) sheet-fields-requires (λ c. search needs)
+    returns-2 (λ c. search needs) tallies-requires returns-3 sheet-counts-requires (λ c. search needs) byte-requires (λ c κs. search needs) returns-4
+    returns-5)

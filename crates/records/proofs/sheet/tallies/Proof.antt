@@ -17,12 +17,15 @@ abbrev μ-loop : tie.MeasureT-loop
 μ-loop board first size at head n i₀ i = n - i
 
 tally-requires : tie.Need-tally-requires Inv-loop μ-loop
-tally-requires c κs = let pre = c .before .before .before .pre in (pre .0, c .loop-test .taken, pre .1, pre .2, pre .3)
+tally-requires c κs =
+    let pre = c .before .before .before .pre in
+    (pre .0, c .loop-test .taken, pre .1, pre .2, pre .3)
 
 returns : tie.Need-returns Inv-loop μ-loop
 returns c =
     let a = c .before .before .before .before .before .args in
-    sym (all-fails (a .h .n) (c .before .before .before .loop .i) (tallyAt (now (a .board)) (a .h) (a .first) (a .size) (a .at)) (c .before .before .loop-test .taken)
+    sym (all-fails (a .h .n) (c .before .before .before .loop .i) (tallyAt (now (a .board)) (a .h) (a .first) (a .size) (a .at))
+    (c .before .before .loop-test .taken)
     (sym (c .before .tally .ensures) ∙ not-true _ (c .if1 .taken)))
 
 loop-again : tie.Need-loop-again Inv-loop μ-loop
@@ -31,7 +34,8 @@ loop-again c = (omega arith, all-more _ _ (c .before .before .before .loop .inv 
 returns-2 : tie.Need-returns-2 Inv-loop μ-loop
 returns-2 c =
     let a = c .before .before .before .args in
-    sym (all-end (a .h .n) (c .before .loop .i) (tallyAt (now (a .board)) (a .h) (a .first) (a .size) (a .at)) (c .before .loop .inv .0) (c .loop-test .left)
+    sym (all-end (a .h .n) (c .before .loop .i) (tallyAt (now (a .board)) (a .h) (a .first) (a .size) (a .at)) (c .before .loop .inv .0)
+    (c .loop-test .left)
     (c .before .loop .inv .1))
 
 pub tallies-spec : {M : Type 1} → statement M

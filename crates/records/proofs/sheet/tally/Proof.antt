@@ -22,7 +22,11 @@ product-requires : tie.Need-product-requires
 product-requires c κs = (c .before .before .before .before .pre .0 .ready .p-pos, λ j l. omega (arith, column-fits (c .before .before) j l))
 
 product-requires-2 : tie.Need-product-requires-2
-product-requires-2 c κs = (c .before .before .before .before .before .before .before .before .before .before .before .pre .0 .ready .p-pos, λ j l. column-fits (c .before .before .before .before .before .before .before .before .before) j l)
+product-requires-2 c κs = (
+  c .before .before .before .before .before .before .before .before .before .before .before .pre .0 .ready .p-pos,
+  λ j l. column-fits
+      (c .before .before .before .before .before .before .before .before .before) j l,
+)
 
 returns : tie.Need-returns
 returns c =
@@ -53,6 +57,8 @@ returns-2 c =
 pub tally-spec : {M : Type 1} → statement M
 tally-spec =
     tie.close
-    (tie.spec (λ c. search needs) (λ c. search needs) (λ c. search needs) (λ c. search needs) (λ c. search needs) (λ c. search needs) (λ c κs. search needs)
-    (λ c. search needs) (λ c. search needs) (λ c. search needs) (λ c κs. search needs) product-requires (λ c κs. search needs) (λ c κs. search needs)
-    (λ c κs. search needs) (λ c. search needs) product-requires-2 (λ c κs. c .before .before .before .before .before .before .before .before .before .before .before .before .pre .0 .ready .p-pos) returns returns-2)
+    (tie.spec (λ c. search needs) (λ c. search needs) (λ c. search needs) (λ c. search needs) (λ c. search needs) (λ c. search needs)
+    (λ c κs. search needs) (λ c. search needs) (λ c. search needs) (λ c. search needs) (λ c κs. search needs) product-requires (λ c κs. search needs)
+    (λ c κs. search needs) (λ c κs. search needs) (λ c. search needs) product-requires-2
+    (λ c κs. c .before .before .before .before .before .before .before .before .before .before .before .before .pre .0 .ready .p-pos) returns
+    returns-2)

@@ -1,36 +1,53 @@
 use denote.Ref.{now}
-use Prim.Native.Nat.{_+_, _-_}
+use Prim.Native.Nat.{suc, _+_, _-_}
 use mathlib.Core.Path.{_≡_, sym, _∙_}
 use mathlib.Core.Bool.{true}
 use native.Mathlib.Omega.{arith}
 use borrow.Author.Needs.{needs}
 use borrow.Author.Tests.{not-true, not-false}
+use Rattle.sha256.specs.Message.{sha256}
 use Rattle.rules.specs.Bytes.{half}
 use Rattle.rules.specs.Records.{SH}
+use Rattle.rules.specs.Check.{recordFault}
+use Rattle.records.specs.Heads.{headOf}
 use Rattle.statements.proofs.Reading.{walk-to, walk-refused}
 use Rattle.records.specs.declared.Fault.the-variants.{Sound}
 use Rattle.records.specs.Sizes.{shiftSize}
 use Rattle.records.specs.Faults.{Framed}
 use Rattle.records.specs.Parts.{shiftFieldsAt, shiftProofAt}
-use Rattle.records.proofs.Framing.{wrong-frame, wrong-field, wrong-proof, all-sound}
+use Rattle.records.proofs.Framing.{FiveTests, wrong-frame, wrong-field, wrong-proof, all-sound}
 use Rattle.records.proofs.BallotTables.{shift-table}
 use Rattle.records.proofs.shift.shift_fault.Statement.{statement}
 use Rattle.records.proofs.shift.shift_fault.Tie as tie
 
 -- the frame and the fields are sound
 framed : (c : tie.After-enum-told) →
-    let a = c .before .before .before .before .before .before .args in Framed (now (a .board)) (a .at) (shiftSize (a .h .n) (a .h .n - a .m - 1)) SH (half (now (a .board)) (a .at + 2)) (a .k + 1) Sound
+    let a = c .before .before .before .before .before .before .args in Framed (now (a .board)) (a .at) (shiftSize (a .h .n) (a .h .n - a .m - 1)) SH
+    (half (now (a .board)) (a .at + 2)) (a .k + 1) Sound
 framed c = rw (c .before .before .before .shift-size .ensures, c .enum-told .given .1) at (c .before .before .ballot-frame .ensures)
 
 walked : (c : tie.After-enum-told2) → let a = c .before .before .before .before .before .before .before .before .before .args in shiftFieldsAt (now (a .board)) (a .h .n) (a .h .setup .group .p) (a .h .setup .group .q) (a .at) (a .h .n - a .m - 1) ≡ true
 walked c =
     let a = c .before .before .before .before .before .before .before .before .before .args in
-    walk-to (shiftFieldsAt (now (a .board)) (a .h .n) (a .h .setup .group .p) (a .h .setup .group .q) (a .at) (a .h .n - a .m - 1)) (a .at + shiftSize (a .h .n) (a .h .n - a .m - 1)) _ (sym (c .before .before .shift-fields .ensures) ∙ c .enum-told2 .given .1) .0
+    walk-to (shiftFieldsAt (now (a .board)) (a .h .n) (a .h .setup .group .p) (a .h .setup .group .q) (a .at) (a .h .n - a .m - 1))
+    (a .at + shiftSize (a .h .n) (a .h .n - a .m - 1)) _ (sym (c .before .before .shift-fields .ensures) ∙ c .enum-told2 .given .1) .0
+
+table : (c : tie.After-group) →
+    let a = c .before .before .args in
+    let rows = a .h .n - a .m - 1 in
+    FiveTests (now (a .board)) (a .at) (shiftSize (a .h .n) rows) SH (half (now (a .board)) (a .at + 2)) (a .k + 1)
+    (shiftFieldsAt (now (a .board)) (a .h .n) (a .h .setup .group .p) (a .h .setup .group .q) (a .at) rows)
+    (shiftProofAt (now (a .board)) (a .h) (a .before) (a .at) rows (a .a - 1))
+    (recordFault sha256 (now (a .board)) (headOf (now (a .board)) (a .h)) (a .a) (suc (a .m)) (a .k))
+table c =
+    let a = c .before .before .args in
+    let pre = c .before .before .pre .1 in
+    shift-table (now (a .board)) (a .h) (a .m) (a .k) (a .a) (a .at) (a .before) (a .h .n - a .m - 1) (pre .0) (pre .1) (omega arith)
 
 returns : tie.Need-returns
 returns c =
-    let a = c .before .before .before .before .before .before .before .args in
-    wrong-frame (now (a .board)) (a .at) (shiftSize (a .h .n) (a .h .n - a .m - 1)) SH (half (now (a .board)) (a .at + 2)) (a .k + 1) (shiftFieldsAt (now (a .board)) (a .h .n) (a .h .setup .group .p) (a .h .setup .group .q) (a .at) (a .h .n - a .m - 1)) (shiftProofAt (now (a .board)) (a .h) (a .before) (a .at) (a .h .n - a .m - 1) (a .a - 1)) _ (shift-table (now (a .board)) (a .h) (a .m) (a .k) (a .a) (a .at) (a .before) (a .h .n - a .m - 1) (c .before .before .before .before .before .before .before .pre .1 .0) (c .before .before .before .before .before .before .before .pre .1 .1) (omega arith)) _ (rw (c .before .before .before .before .shift-size .ensures, c .before .framed .given .1) at (c .before .before .before .ballot-frame .ensures))
+    wrong-frame (table (c .before .before .before .before .before)) _
+    (rw (c .before .before .before .before .shift-size .ensures, c .before .framed .given .1) at (c .before .before .before .ballot-frame .ensures))
 
 shift-fields-requires : tie.Need-shift-fields-requires
 unfolding Framed
@@ -39,8 +56,9 @@ shift-fields-requires c κs = (omega arith, omega arith, framed c .0)
 returns-2 : tie.Need-returns-2
 returns-2 c =
     let a = c .before .before .before .before .before .before .before .before .before .args in
-    wrong-field (now (a .board)) (a .at) (shiftSize (a .h .n) (a .h .n - a .m - 1)) SH (half (now (a .board)) (a .at + 2)) (a .k + 1) (shiftFieldsAt (now (a .board)) (a .h .n) (a .h .setup .group .p) (a .h .setup .group .q) (a .at) (a .h .n - a .m - 1)) (shiftProofAt (now (a .board)) (a .h) (a .before) (a .at) (a .h .n - a .m - 1) (a .a - 1)) _ (shift-table (now (a .board)) (a .h) (a .m) (a .k) (a .a) (a .at) (a .before) (a .h .n - a .m - 1) (c .before .before .before .before .before .before .before .before .before .pre .1 .0) (c .before .before .before .before .before .before .before .before .before .pre .1 .1) (omega arith)) (framed (c .before .before .before))
-    (walk-refused (shiftFieldsAt (now (a .board)) (a .h .n) (a .h .setup .group .p) (a .h .setup .group .q) (a .at) (a .h .n - a .m - 1)) (a .at + shiftSize (a .h .n) (a .h .n - a .m - 1)) (sym (c .before .before .shift-fields .ensures) ∙ c .enum-told3 .given .1))
+    wrong-field (table (c .before .before .before .before .before .before .before)) (framed (c .before .before .before))
+    (walk-refused (shiftFieldsAt (now (a .board)) (a .h .n) (a .h .setup .group .p) (a .h .setup .group .q) (a .at) (a .h .n - a .m - 1))
+    (a .at + shiftSize (a .h .n) (a .h .n - a .m - 1)) (sym (c .before .before .shift-fields .ensures) ∙ c .enum-told3 .given .1))
 
 shift-proof-requires : tie.Need-shift-proof-requires
 unfolding Framed
@@ -52,16 +70,18 @@ shift-proof-requires c κs =
 
 returns-3 : tie.Need-returns-3
 returns-3 c =
-    let a = c .before .before .before .before .before .before .before .before .before .before .before .args in
-    wrong-proof (now (a .board)) (a .at) (shiftSize (a .h .n) (a .h .n - a .m - 1)) SH (half (now (a .board)) (a .at + 2)) (a .k + 1) (shiftFieldsAt (now (a .board)) (a .h .n) (a .h .setup .group .p) (a .h .setup .group .q) (a .at) (a .h .n - a .m - 1)) (shiftProofAt (now (a .board)) (a .h) (a .before) (a .at) (a .h .n - a .m - 1) (a .a - 1)) _ (shift-table (now (a .board)) (a .h) (a .m) (a .k) (a .a) (a .at) (a .before) (a .h .n - a .m - 1) (c .before .before .before .before .before .before .before .before .before .before .before .pre .1 .0) (c .before .before .before .before .before .before .before .before .before .before .before .pre .1 .1) (omega arith)) (framed (c .before .before .before .before .before)) (walked (c .before .before)) (sym (c .before .shift-proof .ensures) ∙ not-true _ (c .if1 .taken))
+    wrong-proof (table (c .before .before .before .before .before .before .before .before .before))
+    (framed (c .before .before .before .before .before)) (walked (c .before .before))
+    (sym (c .before .shift-proof .ensures) ∙ not-true _ (c .if1 .taken))
 
 returns-4 : tie.Need-returns-4
 returns-4 c =
-    let a = c .before .before .before .before .before .before .before .before .before .before .before .args in
-    all-sound (now (a .board)) (a .at) (shiftSize (a .h .n) (a .h .n - a .m - 1)) SH (half (now (a .board)) (a .at + 2)) (a .k + 1) (shiftFieldsAt (now (a .board)) (a .h .n) (a .h .setup .group .p) (a .h .setup .group .q) (a .at) (a .h .n - a .m - 1)) (shiftProofAt (now (a .board)) (a .h) (a .before) (a .at) (a .h .n - a .m - 1) (a .a - 1)) _ (shift-table (now (a .board)) (a .h) (a .m) (a .k) (a .a) (a .at) (a .before) (a .h .n - a .m - 1) (c .before .before .before .before .before .before .before .before .before .before .before .pre .1 .0) (c .before .before .before .before .before .before .before .before .before .before .before .pre .1 .1) (omega arith)) (framed (c .before .before .before .before .before)) (walked (c .before .before)) (sym (c .before .shift-proof .ensures) ∙ not-false _ (c .if1 .left))
+    all-sound (table (c .before .before .before .before .before .before .before .before .before)) (framed (c .before .before .before .before .before))
+    (walked (c .before .before)) (sym (c .before .shift-proof .ensures) ∙ not-false _ (c .if1 .left))
 
 pub shift-fault-spec : {M : Type 1} → statement M
 shift-fault-spec =
     tie.close
-    (tie.spec (λ c. search needs) (λ c. search needs) (λ c κs. search needs) (λ c. search needs) (λ c κs. search needs) (λ c. search needs) returns (λ c. search needs)
-    shift-fields-requires (λ c. search needs) (λ c. search needs) returns-2 (λ c. search needs) shift-proof-requires returns-3 returns-4)
+    (tie.spec (λ c. search needs) (λ c. search needs) (λ c κs. search needs) (λ c. search needs) (λ c κs. search needs) (λ c. search needs) returns
+    (λ c. search needs) shift-fields-requires (λ c. search needs) (λ c. search needs) returns-2 (λ c. search needs) shift-proof-requires returns-3
+    returns-4)

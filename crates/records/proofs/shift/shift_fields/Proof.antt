@@ -14,7 +14,8 @@ use Rattle.records.proofs.shift.shift_fields.Tie as tie
 -- the pairs, walked
 first : (c : tie.After-known-told) →
     let a = c .before .before .before .before .before .args in
-    (pairsFields (now (a .board)) (a .at + 4) (a .rows * a .n) (a .p) (a .q) ≡ true) × (c .before .proof .given .0 .0 ≡ a .at + 4 + 8 * (a .rows * a .n))
+    (pairsFields (now (a .board)) (a .at + 4) (a .rows * a .n) (a .p) (a .q) ≡ true) ×
+    (c .before .proof .given .0 .0 ≡ a .at + 4 + 8 * (a .rows * a .n))
 first c =
     let a = c .before .before .before .before .before .args in
     walk-to (pairsFields (now (a .board)) (a .at + 4) (a .rows * a .n) (a .p) (a .q)) (a .at + 4 + 8 * (a .rows * a .n)) _
@@ -33,7 +34,8 @@ returns-2 c =
     rw (
       w .0,
       ← w .1,
-      walk-refused (proofFields (now (a .board)) (c .before .before .before .before .proof .given .0 .0) (a .rows + 1) (2 + a .rows * a .n) (a .p) (a .q)) _
+      walk-refused (proofFields (now (a .board)) (c .before .before .before .before .proof .given .0 .0) (a .rows + 1) (2 + a .rows * a .n) (a .p)
+          (a .q)) _
           (sym (c .before .before .proof-fields .ensures) ∙ c .enum-told2 .given .1),
     )
 
@@ -42,7 +44,8 @@ returns-3 c =
     let a = c .before .before .before .before .before .before .before .before .before .args in
     let w = first (c .before .before .before .before) in
     let x = c .before .before .before .before .before .proof .given .0 .0 in
-    let v = walk-to (proofFields (now (a .board)) x (a .rows + 1) (2 + a .rows * a .n) (a .p) (a .q)) (x + (a .rows + 1) * (4 + 12 * (2 + a .rows * a .n))) _
+    let v = walk-to (proofFields (now (a .board)) x (a .rows + 1) (2 + a .rows * a .n) (a .p) (a .q))
+    (x + (a .rows + 1) * (4 + 12 * (2 + a .rows * a .n))) _
     (sym (c .before .before .before .proof-fields .ensures) ∙ c .before .end .given .1) in
     let e : c .before .end .given .0 .0 ≡ a .at + shiftSize (a .n) (a .rows) = v .1 ∙ rw (w .1) (omega arith) in
     rw (w .0, ← w .1, v .0, e)

@@ -19,14 +19,22 @@ product-requires c κs =
     (c .before .pre .0 .p-pos, λ j l. omega (arith, fits c, row-below (c .before .args .n) (c .before .args .n) j l))
 
 product-requires-2 : tie.Need-product-requires-2
-product-requires-2 c κs =
-    (c .before .before .pre .0 .p-pos, λ j l. omega (arith, fits (c .before), row-below (c .before .before .args .n) (c .before .before .args .n) j l))
+product-requires-2 c κs = (
+  c .before .before .pre .0 .p-pos,
+  λ j l. omega (
+    arith,
+    fits (c .before),
+    row-below (c .before .before .args .n) (c .before .before .args .n) j
+        l,
+  ),
+)
 
 returns : tie.Need-returns
 returns c =
     let a = c .before .before .before .before .args in
     said _ _ _ _ (c .mul .ensures) refl
-    ∙ column-said (now (a .s)) (parametersOf (a .g .group)) (a .n) (a .at) (a .g .inverse .0) (c .before .before .before .before .pre .0 .inverse) (a .j) _ _
+    ∙ column-said (now (a .s)) (parametersOf (a .g .group)) (a .n) (a .at) (a .g .inverse .0) (c .before .before .before .before .pre .0 .inverse)
+    (a .j) _ _
     (c .before .before .product .ensures) (c .before .product2 .ensures)
 
 pub claimed-column-spec : {M : Type 1} → statement M

@@ -17,7 +17,8 @@ returns : tie.Need-returns
 returns c =
     let a = c .before .before .before .before .args in
     said _ _ _ _ (c .mul .ensures) refl
-    ∙ row-said (now (a .s)) (parametersOf (a .g .group)) (a .n) (a .at) (a .g .inverse .0) (c .before .before .before .before .pre .0 .inverse) (a .i) _ _
+    ∙ row-said (now (a .s)) (parametersOf (a .g .group)) (a .n) (a .at) (a .g .inverse .0) (c .before .before .before .before .pre .0 .inverse) (a .i)
+    _ _
     (c .before .before .product .ensures) (c .before .product2 .ensures)
 
 pub claimed-row-spec : {M : Type 1} → statement M

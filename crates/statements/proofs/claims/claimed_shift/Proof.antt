@@ -18,11 +18,13 @@ claimed-entry-requires c κs =
 returns : tie.Need-returns
 returns c =
     let a = c .before .before .before .before .args in
-    c .claimed-entry .ensures ∙ shift-zero (now (a .s)) (parametersOf (a .g .group)) (a .n) (a .before) (a .new) (a .a) (a .l) (a .k) (c .before .if1 .taken)
+    c .claimed-entry .ensures ∙ shift-zero (now (a .s)) (parametersOf (a .g .group)) (a .n) (a .before) (a .new) (a .a) (a .l) (a .k)
+    (c .before .if1 .taken)
 
 -- row l of the matrix before is within the slice
 row-fits : (c : tie.Then2) →
-    let a = c .before .before .before .before .args in (a .before + 4 + 8 * (a .l * a .n + a .n) ≤ length (now (a .s))) × (length (now (a .s)) < 2 ^ 64)
+    let a = c .before .before .before .before .args in (a .before + 4 + 8 * (a .l * a .n + a .n) ≤ length (now (a .s))) ×
+    (length (now (a .s)) < 2 ^ 64)
 row-fits c =
     let a = c .before .before .before .before .args in
     (omega (arith, row-below (a .rows + 1) (a .n) (a .l) (omega arith)), omega (arith, c .before .before .before .before .good))
@@ -52,16 +54,19 @@ returns-3 c =
     let inverted = c .before .before .before .before .before .before .before .before .before .before .before .pre .1 .inverted in
     said _ _ _ _ (c .before .mul .ensures) (c .mul2 .ensures)
     ∙ shift-more (now (a .s)) (parametersOf (a .g .group)) (a .n) (a .before) (a .new) (a .a) (a .l) (a .k) from _ _ _ _ (omega arith)
-    (c .before .before .before .before .before .before .source-of .ensures) (c .before .before .before .before .before .as-element .ensures) (c .before .before .before .before .as-element2 .ensures)
+    (c .before .before .before .before .before .before .source-of .ensures) (c .before .before .before .before .before .as-element .ensures)
+    (c .before .before .before .before .as-element2 .ensures)
     (inverted (2 * from) (omega arith)) (inverted (2 * from + 1) (omega arith))
 
 pub claimed-shift-spec : {M : Type 1} → statement M
 claimed-shift-spec =
     tie.close
     (tie.spec claimed-entry-requires returns (λ c. search needs) (λ c. omega (arith, row-fits c)) (λ c. omega (arith, row-fits c))
-    (λ c. omega (arith, row-fits c)) (λ c κs. (c .before .before .before .before .pre .0 .p-pos, λ j h. omega (arith, row-fits c))) (λ c. omega (arith, row-fits (c .before)))
-    (λ c κs. (c .before .before .before .before .before .pre .0 .p-pos, λ j h. omega (arith, row-fits (c .before)))) returns-2 (λ c. search needs) (λ c κs. search needs)
-    (λ c. search needs) (λ c. search needs) (λ c. search needs) (λ c κs. search needs) (λ c. search needs) (λ c κs. search needs)
-    (λ c. omega (arith, source-fits (c .before .before))) (λ c. omega (arith, source-fits (c .before .before)))
-    (λ c. omega (arith, source-fits (c .before .before .before))) (λ c. omega (arith, source-fits (c .before .before .before))) (λ c. omega (arith, source-fits (c .before .before .before)))
-    (λ c. omega (arith, source-fits (c .before .before .before))) (λ c. omega (arith, source-fits (c .before .before .before .before))) (λ c κs. search needs) (λ c κs. search needs) returns-3)
+    (λ c. omega (arith, row-fits c)) (λ c κs. (c .before .before .before .before .pre .0 .p-pos, λ j h. omega (arith, row-fits c)))
+    (λ c. omega (arith, row-fits (c .before)))
+    (λ c κs. (c .before .before .before .before .before .pre .0 .p-pos, λ j h. omega (arith, row-fits (c .before)))) returns-2 (λ c. search needs)
+    (λ c κs. search needs) (λ c. search needs) (λ c. search needs) (λ c. search needs) (λ c κs. search needs) (λ c. search needs)
+    (λ c κs. search needs) (λ c. omega (arith, source-fits (c .before .before))) (λ c. omega (arith, source-fits (c .before .before)))
+    (λ c. omega (arith, source-fits (c .before .before .before))) (λ c. omega (arith, source-fits (c .before .before .before)))
+    (λ c. omega (arith, source-fits (c .before .before .before))) (λ c. omega (arith, source-fits (c .before .before .before)))
+    (λ c. omega (arith, source-fits (c .before .before .before .before))) (λ c κs. search needs) (λ c κs. search needs) returns-3)

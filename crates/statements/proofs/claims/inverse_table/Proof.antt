@@ -45,6 +45,6 @@ returns c =
 pub inverse-table-spec : {M : Type 1} → statement M
 inverse-table-spec =
     tie.close
-    (tie.spec Inv-loop μ-loop (λ c. search needs) loop-holds (λ c. omega (arith, c .before .before .before .good)) (λ c. omega (arith, c .before .before .before .good))
-    (λ c. omega (arith, c .before .before .before .good)) (λ c κs. omega arith) (λ c κs. search needs) (λ c. omega arith) (λ c. omega arith) (λ c. omega arith)
-    (λ c. omega arith) loop-again returns)
+    (tie.spec Inv-loop μ-loop (λ c. search needs) loop-holds (λ c. omega (arith, c .before .before .before .good))
+    (λ c. omega (arith, c .before .before .before .good)) (λ c. omega (arith, c .before .before .before .good)) (λ c κs. omega arith)
+    (λ c κs. search needs) (λ c. omega arith) (λ c. omega arith) (λ c. omega arith) (λ c. omega arith) loop-again returns)

@@ -48,20 +48,25 @@ branches-holds c =
 -- the branch is on the board, and so is the statement
 branch-fits : (c : tie.In-branches Inv-statements μ-statements Inv-branches μ-branches) →
     let a = c .before .before .before .before .before .before .before .args in
-    (branchAt (a .at) (a .statements) (c .before .branches .l) + (4 + 12 * a .statements) ≤ length (now (a .board))) × (length (now (a .board)) < 2 ^ 64)
+    (branchAt (a .at) (a .statements) (c .before .branches .l) + (4 + 12 * a .statements) ≤ length (now (a .board))) ×
+    (length (now (a .board)) < 2 ^ 64)
 branch-fits c =
     let a = c .before .before .before .before .before .before .before .args in (
-      branch-within (a .at) (a .branches) (a .statements) (c .before .branches .l) (length (now (a .board))) (c .before .before .before .before .before .before .before .pre .1 .0) (c .branches-test .taken),
+      branch-within (a .at) (a .branches) (a .statements) (c .before .branches .l) (length (now (a .board)))
+          (c .before .before .before .before .before .before .before .pre .1 .0) (c .branches-test .taken),
       omega (arith, c .before .before .before .before .before .before .before .good),
     )
 
 fits : (c : tie.In-statements Inv-statements μ-statements Inv-branches μ-branches) →
     let a = c .before .before .before .before .before .before .before .before .before .before .before .args in
-    (statementAt (a .at) (a .statements) (c .before .before .before .before .before .branches .l) (c .before .statements .i) + 12 ≤ length (now (a .board))) × (length (now (a .board)) < 2 ^ 64)
+    (statementAt (a .at) (a .statements) (c .before .before .before .before .before .branches .l) (c .before .statements .i) + 12 ≤ length
+    (now (a .board))) × (length (now (a .board)) < 2 ^ 64)
 fits c =
     let a = c .before .before .before .before .before .before .before .before .before .before .before .args in (
-      within (a .at) (a .branches) (a .statements) (c .before .before .before .before .before .branches .l) (c .before .statements .i) (length (now (a .board)))
-          (c .before .before .before .before .before .before .before .before .before .before .before .pre .1 .0) (c .before .before .before .before .branches-test .taken) (c .statements-test .taken),
+      within (a .at) (a .branches) (a .statements) (c .before .before .before .before .before .branches .l) (c .before .statements .i)
+          (length (now (a .board)))
+          (c .before .before .before .before .before .before .before .before .before .before .before .pre .1 .0)
+          (c .before .before .before .before .branches-test .taken) (c .statements-test .taken),
       omega (arith, c .before .before .before .before .before .before .before .before .before .before .before .good),
     )
 
@@ -72,19 +77,27 @@ statements-holds c =
 
 statement-at-requires : tie.Need-statement-at-requires Inv-statements μ-statements Inv-branches μ-branches
 statement-at-requires c κs =
-    let pre = c .before .before .before .before .before .before .before .before .before .before .before .pre in
-    (pre .0, (fits c .0, pre .1 .1 (c .before .before .before .before .before .branches .l) (c .before .statements .i) (c .before .before .before .before .branches-test .taken) (c .statements-test .taken)))
+    let pre = c .before .before .before .before .before .before .before .before .before .before .before .pre in (
+      pre .0,
+      (
+        fits c .0,
+        pre .1 .1 (c .before .before .before .before .before .branches .l) (c .before .statements .i)
+            (c .before .before .before .before .branches-test .taken) (c .statements-test .taken),
+      ),
+    )
 
 -- what the callee says, at the statement's number
 this : (c : tie.After-statement-at Inv-statements μ-statements Inv-branches μ-branches) →
     let a = c .before .before .before .before .before .before .before .before .before .before .before .before .args in
     c .statement-at .result
-    ≡ here (now (a .board)) (parametersOf (a .g .group)) (claimOf (now (a .board)) (parametersOf (a .g .group)) (a .n) (a .claim)) (a .at) (a .statements)
+    ≡ here (now (a .board)) (parametersOf (a .g .group)) (claimOf (now (a .board)) (parametersOf (a .g .group)) (a .n) (a .claim)) (a .at)
+    (a .statements)
     (c .before .before .before .before .before .before .branches .l) (c .before .before .statements .i)
 this c = rw (← c .before .before .before .before .as-exponent .ensures) (c .statement-at .ensures)
 
 add-i : tie.Need-add-i Inv-statements μ-statements Inv-branches μ-branches
-add-i c = omega (arith, c .before .before .before .before .before .before .before .before .before .before .before .before .before .before .before .fits .statements, c .before .before .before .before .statements-test .taken)
+add-i c =
+    omega (arith, c .before .before .before .before .before .before .before .before .before .before .before .before .before .before .before .fits .statements, c .before .before .before .before .statements-test .taken)
 
 statements-again : tie.Need-statements-again Inv-statements μ-statements Inv-branches μ-branches
 statements-again c =
@@ -116,7 +129,8 @@ branches-again c =
 record Done (c : tie.Left-branches Inv-statements μ-statements Inv-branches μ-branches) : Type 0 where
   pub all :
       let a = c .before .before .before .before .before .before .before .args in
-      allBelow (a .branches) (branchHere (now (a .board)) (parametersOf (a .g .group)) (claimOf (now (a .board)) (parametersOf (a .g .group)) (a .n) (a .claim)) (a .at) (a .statements))
+      allBelow (a .branches) (branchHere (now (a .board)) (parametersOf (a .g .group))
+      (claimOf (now (a .board)) (parametersOf (a .g .group)) (a .n) (a .claim)) (a .at) (a .statements))
       ≡ true
   pub sum :
       let a = c .before .before .before .before .before .before .before .args in
@@ -147,7 +161,8 @@ after c =
     ))
     (λ w. (
       λ z. absurd (true≢false (sym z ∙ w .9)),
-      λ _. fails-there (now (a .board)) (now (a .label)) (parametersOf (a .g .group)) (claimOf (now (a .board)) (parametersOf (a .g .group)) (a .n) (a .claim))
+      λ _. fails-there (now (a .board)) (now (a .label)) (parametersOf (a .g .group))
+          (claimOf (now (a .board)) (parametersOf (a .g .group)) (a .n) (a .claim))
           (a .at) (a .branches) (a .statements) (o .l) (w .3 .i) (w .0 .taken) (w .4 .taken)
           (sym (this (record {
             before = record {
@@ -168,16 +183,16 @@ returns c =
     let k = after (c .before .before .before .before .before .before) .0 (c .before .before .before .before .before .if2 .taken) in
     sums-up (now (a .board)) (now (a .label)) (parametersOf (a .g .group)) (claimOf (now (a .board)) (parametersOf (a .g .group)) (a .n) (a .claim))
     (a .at) (a .branches) (a .statements) _ _ (k .all) (k .sum)
-    (c .before .before .challenge .ensures ∙ ap (λ (d : List ℕ). long d 0 % a .g .group .q) (c .before .before .before .before .finish .ensures _ (k .fed)))
+    (c .before .before .challenge .ensures ∙ ap (λ (d : List ℕ). long d 0 % a .g .group .q)
+    (c .before .before .before .before .finish .ensures _ (k .fed)))
 
 pub proof-holds-spec : {M : Type 1} → statement M
 proof-holds-spec =
     tie.close
     (tie.spec Inv-statements μ-statements Inv-branches μ-branches (λ c κs. search needs) (λ c κs. search needs) branches-holds
     (λ c. omega (arith, branch-fits c)) (λ c. omega (arith, branch-fits c)) (λ c. omega (arith, branch-fits c)) (λ c. omega (arith, branch-fits c))
-    (λ c κs. omega (arith, branch-fits c)) (λ c κs. search needs) statements-holds
-    (λ c. omega (arith, fits c)) (λ c. omega (arith, fits c)) (λ c. omega (arith, fits c)) statement-at-requires
-    (λ c. omega (arith, fits (c .before .before))) (λ c. omega (arith, fits (c .before .before)))
-    (λ c. omega (arith, fits (c .before .before))) (λ c. omega (arith, fits (c .before .before)))
-    (λ c κs. search needs) add-i (λ c. omega arith) statements-again (λ c. omega arith) (λ c. omega arith) branches-again
-    (λ c κs. search needs) (λ c κs. search needs) returns (λ c. after (c .before) .1 (c .if2 .left)))
+    (λ c κs. omega (arith, branch-fits c)) (λ c κs. search needs) statements-holds (λ c. omega (arith, fits c)) (λ c. omega (arith, fits c))
+    (λ c. omega (arith, fits c)) statement-at-requires (λ c. omega (arith, fits (c .before .before))) (λ c. omega (arith, fits (c .before .before)))
+    (λ c. omega (arith, fits (c .before .before))) (λ c. omega (arith, fits (c .before .before))) (λ c κs. search needs) add-i (λ c. omega arith)
+    statements-again (λ c. omega arith) (λ c. omega arith) branches-again (λ c κs. search needs) (λ c κs. search needs) returns
+    (λ c. after (c .before) .1 (c .if2 .left)))

@@ -20,7 +20,8 @@ abbrev μ-loop : tie.MeasureT-loop
 
 -- the challenge, read
 first : (c : tie.After-known-told Inv-loop μ-loop) →
-    let a = c .before .before .before .before .before .args in (ltb (word (now (a .board)) (a .at)) (a .q) ≡ true) × (c .before .first .given .0 .1 .0 ≡ a .at + 4)
+    let a = c .before .before .before .before .before .args in (ltb (word (now (a .board)) (a .at)) (a .q) ≡ true) ×
+    (c .before .first .given .0 .1 .0 ≡ a .at + 4)
 first c =
     let a = c .before .before .before .before .before .args in
     let w = exponent-value (now (a .board)) (a .at) (a .q) (sym (c .before .before .before .exponent .ensures) ∙ c .before .first .given .1) in
@@ -43,21 +44,24 @@ returns-2 c =
     let l = c .before .before .before .before .loop in
     rw (
       first (c .before .before .before .before .before) .0,
-      walked-bad (λ x. statementFields (now (a .board)) x (a .p) (a .q)) (λ i. a .at + 4 + 12 * i) (l .inv .1) 12 (c .before .before .before .loop-test .taken)
+      walked-bad (λ x. statementFields (now (a .board)) x (a .p) (a .q)) (λ i. a .at + 4 + 12 * i) (l .inv .1) 12
+          (c .before .before .before .loop-test .taken)
           (sym (c .before .before .statement-fields .ensures) ∙ c .enum-told2 .given .1),
     )
 
 loop-again : tie.Need-loop-again Inv-loop μ-loop
 loop-again c = (
   omega arith,
-  walked-more _ _ (c .before .before .before .before .before .loop .inv .1) 12 (omega arith) (sym (c .before .before .before .statement-fields .ensures) ∙ c .before .next .given .1),
+  walked-more _ _ (c .before .before .before .before .before .loop .inv .1) 12 (omega arith)
+      (sym (c .before .before .before .statement-fields .ensures) ∙ c .before .next .given .1),
 )
 
 returns-3 : tie.Need-returns-3 Inv-loop μ-loop
 returns-3 c =
     let a = c .before .before .before .before .before .before .before .args in
     let l = c .before .loop in
-    let w = walked-end (λ x. statementFields (now (a .board)) x (a .p) (a .q)) (λ i. a .at + 4 + 12 * i) (l .inv .1) (l .inv .0) (c .loop-test .left) in
+    let w = walked-end (λ x. statementFields (now (a .board)) x (a .p) (a .q)) (λ i. a .at + 4 + 12 * i) (l .inv .1) (l .inv .0) (c .loop-test .left)
+    in
     let e : l .place ≡ a .at + (4 + 12 * a .statements) = omega (arith, w .1) in
     rw (first (c .before .before) .0, w .0, e)
 

@@ -29,12 +29,14 @@ element-requires-2 c κs =
 returns-2 : tie.Need-returns-2
 returns-2 c =
     let a = c .before .before .before .before .before .before .before .before .args in
-    second-bad (now (a .board)) (a .at) (a .p) (a .q) (first (c .before .before .before)) (sym (c .before .before .element2 .ensures) ∙ c .enum-told2 .given .1)
+    second-bad (now (a .board)) (a .at) (a .p) (a .q) (first (c .before .before .before))
+    (sym (c .before .before .element2 .ensures) ∙ c .enum-told2 .given .1)
 
 returns-3 : tie.Need-returns-3
 returns-3 c =
     let a = c .before .before .before .before .before .before .before .before .before .args in
-    both-good (now (a .board)) (a .at) (a .p) (a .q) (first (c .before .before .before .before)) (sym (c .before .before .before .element2 .ensures) ∙ c .before .next .given .1)
+    both-good (now (a .board)) (a .at) (a .p) (a .q) (first (c .before .before .before .before))
+    (sym (c .before .before .before .element2 .ensures) ∙ c .before .next .given .1)
 
 pub pair-fields-spec : {M : Type 1} → statement M
 pair-fields-spec =

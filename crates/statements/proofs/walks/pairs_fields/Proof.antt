@@ -26,14 +26,16 @@ returns : tie.Need-returns Inv-loop μ-loop
 returns c =
     let a = c .before .before .before .before .before .before .args in
     let l = c .before .before .before .before .loop in
-    rw (walked-bad (λ x. pairFields (now (a .board)) x (a .p) (a .q)) (λ i. a .at + 8 * i) (l .inv .1) (8) (c .before .before .before .loop-test .taken)
+    rw (walked-bad (λ x. pairFields (now (a .board)) x (a .p) (a .q)) (λ i. a .at + 8 * i) (l .inv .1) (8)
+    (c .before .before .before .loop-test .taken)
     (sym (c .before .before .pair-fields .ensures) ∙ c .enum-told .given .1))
 
 loop-again : tie.Need-loop-again Inv-loop μ-loop
 loop-again c =
     let a = c .before .before .before .before .before .before .before .args in (
       omega arith,
-      walked-more _ _ (c .before .before .before .before .before .loop .inv .1) (8) (omega arith) (sym (c .before .before .before .pair-fields .ensures) ∙ c .before .next .given .1),
+      walked-more _ _ (c .before .before .before .before .before .loop .inv .1) (8) (omega arith)
+          (sym (c .before .before .before .pair-fields .ensures) ∙ c .before .next .given .1),
     )
 
 returns-2 : tie.Need-returns-2 Inv-loop μ-loop

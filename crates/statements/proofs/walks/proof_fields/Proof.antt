@@ -11,7 +11,8 @@ use Rattle.statements.proofs.walks.proof_fields.Statement.{statement}
 use Rattle.statements.proofs.walks.proof_fields.Tie as tie
 
 abbrev Inv-loop : tie.InvT-loop
-Inv-loop board at branches statements p q place₀ i₀ place i = (i ≤ branches) × Walked (λ x. branchFields board x statements p q) (λ i. at + i * (4 + 12 * statements)) i place
+Inv-loop board at branches statements p q place₀ i₀ place i =
+    (i ≤ branches) × Walked (λ x. branchFields board x statements p q) (λ i. at + i * (4 + 12 * statements)) i place
 
 abbrev μ-loop : tie.MeasureT-loop
 μ-loop board at branches statements p q place₀ i₀ place i = branches - i
@@ -29,14 +30,16 @@ unfolding proofFields
 returns c =
     let a = c .before .before .before .before .before .before .args in
     let l = c .before .before .before .before .loop in
-    rw (walked-bad (λ x. branchFields (now (a .board)) x (a .statements) (a .p) (a .q)) (λ i. a .at + i * (4 + 12 * a .statements)) (l .inv .1) (4 + 12 * a .statements) (c .before .before .before .loop-test .taken)
+    rw (walked-bad (λ x. branchFields (now (a .board)) x (a .statements) (a .p) (a .q)) (λ i. a .at + i * (4 + 12 * a .statements)) (l .inv .1)
+    (4 + 12 * a .statements) (c .before .before .before .loop-test .taken)
     (sym (c .before .before .branch-fields .ensures) ∙ c .enum-told .given .1))
 
 loop-again : tie.Need-loop-again Inv-loop μ-loop
 loop-again c =
     let a = c .before .before .before .before .before .before .before .args in (
       omega arith,
-      walked-more _ _ (c .before .before .before .before .before .loop .inv .1) (4 + 12 * a .statements) (omega arith) (sym (c .before .before .before .branch-fields .ensures) ∙ c .before .next .given .1),
+      walked-more _ _ (c .before .before .before .before .before .loop .inv .1) (4 + 12 * a .statements) (omega arith)
+          (sym (c .before .before .before .branch-fields .ensures) ∙ c .before .next .given .1),
     )
 
 returns-2 : tie.Need-returns-2 Inv-loop μ-loop
@@ -44,7 +47,8 @@ unfolding proofFields
 returns-2 c =
     let a = c .before .before .before .args in
     let l = c .before .loop in
-    let w = walked-end (λ x. branchFields (now (a .board)) x (a .statements) (a .p) (a .q)) (λ i. a .at + i * (4 + 12 * a .statements)) (l .inv .1) (l .inv .0) (c .loop-test .left) in
+    let w = walked-end (λ x. branchFields (now (a .board)) x (a .statements) (a .p) (a .q)) (λ i. a .at + i * (4 + 12 * a .statements)) (l .inv .1)
+    (l .inv .0) (c .loop-test .left) in
     rw (w .0, w .1)
 
 pub proof-fields-spec : {M : Type 1} → statement M

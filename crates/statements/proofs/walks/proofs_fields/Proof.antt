@@ -10,7 +10,8 @@ use Rattle.statements.proofs.walks.proofs_fields.Statement.{statement}
 use Rattle.statements.proofs.walks.proofs_fields.Tie as tie
 
 abbrev Inv-loop : tie.InvT-loop
-Inv-loop board at count branches statements p q place₀ i₀ place i = (i ≤ count) × Walked (λ x. proofFields board x branches statements p q) (λ i. at + branches * (4 + 12 * statements) * i) i place
+Inv-loop board at count branches statements p q place₀ i₀ place i =
+    (i ≤ count) × Walked (λ x. proofFields board x branches statements p q) (λ i. at + branches * (4 + 12 * statements) * i) i place
 
 abbrev μ-loop : tie.MeasureT-loop
 μ-loop board at count branches statements p q place₀ i₀ place i = count - i
@@ -27,21 +28,25 @@ returns : tie.Need-returns Inv-loop μ-loop
 returns c =
     let a = c .before .before .before .before .before .before .args in
     let l = c .before .before .before .before .loop in
-    rw (walked-bad (λ x. proofFields (now (a .board)) x (a .branches) (a .statements) (a .p) (a .q)) (λ i. a .at + a .branches * (4 + 12 * a .statements) * i) (l .inv .1) (a .branches * (4 + 12 * a .statements)) (c .before .before .before .loop-test .taken)
+    rw (walked-bad (λ x. proofFields (now (a .board)) x (a .branches) (a .statements) (a .p) (a .q))
+    (λ i. a .at + a .branches * (4 + 12 * a .statements) * i) (l .inv .1) (a .branches * (4 + 12 * a .statements))
+    (c .before .before .before .loop-test .taken)
     (sym (c .before .before .proof-fields .ensures) ∙ c .enum-told .given .1))
 
 loop-again : tie.Need-loop-again Inv-loop μ-loop
 loop-again c =
     let a = c .before .before .before .before .before .before .before .args in (
       omega arith,
-      walked-more _ _ (c .before .before .before .before .before .loop .inv .1) (a .branches * (4 + 12 * a .statements)) (omega arith) (sym (c .before .before .before .proof-fields .ensures) ∙ c .before .next .given .1),
+      walked-more _ _ (c .before .before .before .before .before .loop .inv .1) (a .branches * (4 + 12 * a .statements)) (omega arith)
+          (sym (c .before .before .before .proof-fields .ensures) ∙ c .before .next .given .1),
     )
 
 returns-2 : tie.Need-returns-2 Inv-loop μ-loop
 returns-2 c =
     let a = c .before .before .before .args in
     let l = c .before .loop in
-    let w = walked-end (λ x. proofFields (now (a .board)) x (a .branches) (a .statements) (a .p) (a .q)) (λ i. a .at + a .branches * (4 + 12 * a .statements) * i) (l .inv .1) (l .inv .0) (c .loop-test .left) in
+    let w = walked-end (λ x. proofFields (now (a .board)) x (a .branches) (a .statements) (a .p) (a .q))
+    (λ i. a .at + a .branches * (4 + 12 * a .statements) * i) (l .inv .1) (l .inv .0) (c .loop-test .left) in
     rw (w .0, w .1)
 
 pub proofs-fields-spec : {M : Type 1} → statement M

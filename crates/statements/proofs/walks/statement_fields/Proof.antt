@@ -29,12 +29,14 @@ exponent-requires c κs =
 returns-2 : tie.Need-returns-2
 returns-2 c =
     let a = c .before .before .before .before .before .before .before .before .args in
-    response-bad (now (a .board)) (a .at) (a .p) (a .q) (first (c .before .before .before)) (sym (c .before .before .exponent .ensures) ∙ c .enum-told2 .given .1)
+    response-bad (now (a .board)) (a .at) (a .p) (a .q) (first (c .before .before .before))
+    (sym (c .before .before .exponent .ensures) ∙ c .enum-told2 .given .1)
 
 returns-3 : tie.Need-returns-3
 returns-3 c =
     let a = c .before .before .before .before .before .before .before .before .before .args in
-    response-good (now (a .board)) (a .at) (a .p) (a .q) (first (c .before .before .before .before)) (sym (c .before .before .before .exponent .ensures) ∙ c .before .next .given .1)
+    response-good (now (a .board)) (a .at) (a .p) (a .q) (first (c .before .before .before .before))
+    (sym (c .before .before .before .exponent .ensures) ∙ c .before .next .given .1)
 
 pub statement-fields-spec : {M : Type 1} → statement M
 statement-fields-spec =
