@@ -84,7 +84,7 @@ fn claimed_column(s: &[u8], g: Setup, n: usize, at: usize, j: usize) -> Statemen
 }
 
 // The pair before that the new pair t comes from, where row l is struck.
-fn source_of(n: usize, l: usize, t: usize) -> usize
+pub fn source_of(n: usize, l: usize, t: usize) -> usize
     requires { ⌜ (0 < n) × (t + n < 2 ^ 64) ⌝ }
     ensures { λ r. ⌜ r ≡ source l (t / n) * n + t % n ⌝ }
 {

@@ -1,0 +1,91 @@
+-- The proofs of a ballot in the terms of its matrix. Assumes nothing.
+use Prim.Native.Nat.{ℕ, zero, suc, _+_, _*_, _-_, _/_, _%_, _≤_, _<_}
+use mathlib.Core.Path.{_≡_, refl, sym, ap, _∙_}
+use mathlib.Core.List.{List, [], _∷_}
+use native.Mathlib.Nat.{mul-le-mul-right, div-add-mod', mod-mod, mod-lt, div-lt-iff-lt-mul}
+use native.Mathlib.Omega.{arith}
+use lib.ListN.{length, getD}
+use Rattle.sha256.specs.Message.{sha256}
+use Rattle.group.specs.Elements.{Parameters}
+use Rattle.rules.specs.Proofs.{Statement}
+use Rattle.rules.specs.Claims.{Matrix, matrixAt, entryClaim}
+use Rattle.statements.specs.declared.claims.Claim.{Claim}
+use Rattle.statements.specs.declared.claims.Claim.the-variants.{Entry}
+use Rattle.statements.specs.Claims.{claimOf, Within}
+use Rattle.whole.proofs.Complete.Matrices.{SameMatrix, entry-same}
+use Rattle.proving.specs.declared.Plan.{Plan}
+use Rattle.proving.specs.Plans.{Spread, Drawn, Planned, proofOf}
+use Rattle.proving.proofs.Same.{proof-same, length-proof}
+use Rattle.ballots.specs.Parts.{matrixOf, opened, lineProof, entryOf, rowOf, columnOf}
+
+pub spread-part : (q : ℕ) (draws : List ℕ) (from total at count : ℕ) → Spread q draws from total → at + count ≤ from + total → Spread q draws at count
+spread-part q draws from total at count s h =
+    record { positive = s .positive; low = s .low; near = omega (arith, s .near); enough = omega (arith, s .enough); below = λ d k. s .below d (omega arith) }
+
+pub cells : (n : ℕ) → n ≤ 8 → n * n ≤ 64
+cells n h = let u : n * n ≤ 8 * n = mul-le-mul-right n h in omega arith
+
+-- a row's end is within the matrix
+pub row-within : (n i : ℕ) → i < n → i * n + n ≤ n * n
+row-within n i h = let u : (i + 1) * n ≤ n * n = mul-le-mul-right n (omega arith) in omega arith
+
+abbrev pub planOf : (b s v from : ℕ) → Plan
+planOf b s v from = record { branches = b; statements = s; known = v; from = from }
+
+pub drawn-of : (q : ℕ) (draws : List ℕ) (b s v from count : ℕ) → Spread q draws from count → b * (1 + s) ≡ count + 1 → b ≤ 8 → v < b → s < 100 →
+    Drawn q (planOf b s v from) draws
+drawn-of q draws b s v from count w e few inside small =
+    record {
+      positive = w .positive;
+      low = w .low;
+      few = few;
+      known = inside;
+      small = small;
+      near = omega (arith, w .near);
+      enough = omega (arith, w .enough);
+      below = λ d h. w .below d (omega arith);
+    }
+
+-- a proof of one statement claims nothing outside the known branch
+pub planned-line : (g : Parameters) (page inverses : List ℕ) (n : ℕ) (claim : Claim) (draws : List ℕ) (from : ℕ) → Spread (g .q) draws from 1 →
+    Planned g page inverses n claim (planOf 1 1 0 from) draws
+planned-line g page inverses n claim draws from w =
+    record { drawn = drawn-of (g .q) draws 1 1 0 from 1 w refl (omega arith) (omega arith) (omega arith); ready = λ l i h k m. absurd (m (omega arith)) }
+
+pub planned-entry : (g : Parameters) (page inverses : List ℕ) (n i j : ℕ) (draws : List ℕ) (v from : ℕ) → v < 2 → i < n → j < n → 4 + 8 * (n * n) ≤ length page →
+    Spread (g .q) draws from 3 → Planned g page inverses n (Entry 0 i j) (planOf 2 1 v from) draws
+unfolding Within
+planned-entry g page inverses n i j draws v from hv hi hj long w =
+    record { drawn = drawn-of (g .q) draws 2 1 v from 3 w refl (omega arith) hv (omega arith); ready = λ l k h m e. (hi, hj, omega arith) }
+
+-- the one witness
+pub one : (x i : ℕ) → i < 1 → getD (x ∷ []) i 0 ≡ x
+one x zero h = refl
+one x (suc i) h = absurd (omega arith)
+
+pub line-is : (label : List ℕ) (g : Parameters) (claim : ℕ → ℕ → Statement) (said : Statement) (w x : ℕ) (draws : List ℕ) (from : ℕ) → w ≡ x % g .q →
+    proofOf label g claim (planOf 1 1 0 from) (w ∷ []) draws ≡ lineProof label g said x draws from
+line-is label g claim said w x draws from e =
+    proof-same sha256 label g (λ d. getD draws d 0) 1 1 0 from claim (λ _ _. said) _ _ (λ l i h k n. absurd (n (omega arith)))
+    (λ i h. ap (λ (a : ℕ). a % g .q) (one w i h ∙ e) ∙ mod-mod x (g .q))
+
+pub entry-is : (label : List ℕ) (g : Parameters) (n : ℕ) (list : ℕ → ℕ) (page draws : List ℕ) (from c v x : ℕ) → 0 < n → c < n * n →
+    SameMatrix n n (matrixAt page n 0) (matrixOf g n list draws from) → v ≡ opened list (c / n) (c % n) → x ≡ getD draws (from + c) 0 →
+    proofOf label g (claimOf page g n (Entry 0 (c / n) (c % n))) (planOf 2 1 v (from + n * n + 3 * c)) (x ∷ []) draws ≡ entryOf label g n list draws from (c / n) (c % n)
+unfolding entryOf claimOf
+entry-is label g n list page draws from c v x some low same ev ex =
+    rw (div-add-mod' c n, ← ev, ← ex)
+    (proof-same sha256 label g (λ d. getD draws d 0) 2 1 v (from + n * n + 3 * c) _ _ _ _
+    (λ l i h k m. entry-same g n _ _ n (c / n) (c % n) l same (div-lt-iff-lt-mul some .1 low) (mod-lt c some)) (λ i h. ap (λ (a : ℕ). a % g .q) (one x i h)))
+
+pub length-entry : (label : List ℕ) (g : Parameters) (n : ℕ) (list : ℕ → ℕ) (draws : List ℕ) (from i j : ℕ) → length (entryOf label g n list draws from i j) ≡ 32
+unfolding entryOf
+length-entry label g n list draws from i j = length-proof sha256 label g _
+
+pub length-row : (label : List ℕ) (g : Parameters) (n : ℕ) (M : Matrix) (draws : List ℕ) (from i : ℕ) → length (rowOf label g n M draws from i) ≡ 16
+unfolding rowOf
+length-row label g n M draws from i = length-proof sha256 label g _
+
+pub length-column : (label : List ℕ) (g : Parameters) (n : ℕ) (M : Matrix) (draws : List ℕ) (from i : ℕ) → length (columnOf label g n M draws from i) ≡ 16
+unfolding columnOf
+length-column label g n M draws from i = length-proof sha256 label g _

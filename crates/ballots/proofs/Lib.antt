@@ -1,0 +1,5 @@
+pub mod Pages
+pub mod Secrets
+pub mod Entries
+pub mod Records
+pub mod Shifts

@@ -1,0 +1,87 @@
+-- Sums of secrets, one more at a time, and the witnesses of a shift. Assumes nothing.
+use Prim.Native.Nat.{ℕ, zero, suc, _+_, _*_, _-_, _/_, _%_, _≤_, _<_}
+use mathlib.Core.Path.{_≡_, refl, sym, ap, _∙_}
+use mathlib.Core.Bool.{cond}
+use mathlib.Core.Logic.{⊎-elim}
+use mathlib.Core.List.{List}
+use native.Mathlib.Nat.{mod-lt, div-lt-iff-lt-mul, eq-or-lt-of-le, mul-le-mul-left, mul-le-mul-right, mod-mod, div-add-mod'}
+use native.Mathlib.Numerals.{add-one}
+use native.Mathlib.Omega.{arith}
+use borrow.Author.Tests.{eq-eqb, ne-eqb}
+use lib.Dec.{eqb}
+use lib.ListN.{length, getD, set, length-set}
+use lib.Seq.{getD-set-same, getD-set-other}
+use Rattle.numbers.specs.Below.{sumBelow}
+use Rattle.numbers.proofs.Sums.{sum-same}
+use Rattle.rules.specs.Claims.{source}
+use Rattle.whole.proofs.Complete.WrittenShift.{source-below}
+use Rattle.ballots.specs.Parts.{drawn, sumBut, witnessOf, Witnessed}
+
+module _ (draws : List ℕ) (at stride but i sum : ℕ) (e : sum ≡ sumBut draws at stride i but) where
+  pub sum-more : (i ≡ but → ⊥) → sum + getD draws (at + stride * i) 0 ≡ sumBut draws at stride (i + 1) but
+  unfolding sumBut sumBelow
+  sum-more h = rw (e, add-one, ne-eqb i but h)
+
+  pub sum-passed : i ≡ but → sum ≡ sumBut draws at stride (i + 1) but
+  unfolding sumBut sumBelow
+  sum-passed h = e ∙ rw (add-one, eq-eqb i but h) (omega arith)
+
+pub stride-up : (stride i count : ℕ) → i < count → stride * i ≤ stride * (count - 1)
+stride-up stride i count h = mul-le-mul-left stride (omega arith)
+
+pub row-sum : (draws : List ℕ) (from n i : ℕ) → sumBut draws (from + i * n) 1 n n ≡ sumBelow n (λ j. drawn draws from n i j)
+unfolding sumBut
+row-sum draws from n i =
+    sum-same n _ _ (λ j h.
+    let e : from + i * n + 1 * j ≡ from + (i * n + j) = omega arith in
+    rw (ne-eqb j n (λ e. omega arith), e))
+
+pub column-sum : (draws : List ℕ) (from n j : ℕ) → sumBut draws (from + j) n n n ≡ sumBelow n (λ i. drawn draws from n i j)
+unfolding sumBut
+column-sum draws from n j =
+    sum-same n _ _ (λ i h.
+    let e : from + j + n * i ≡ from + (i * n + j) = omega arith in
+    rw (ne-eqb i n (λ e. omega arith), e))
+
+-- the witnesses, one by one
+module _ (q n : ℕ) (draws : List ℕ) (old new a l : ℕ) where
+  pub witness-first : (x : ℕ) → x ≡ getD draws (old + l * n + a) 0 → x % q ≡ witnessOf q n draws old new a l 0 % q
+  unfolding witnessOf
+  witness-first x e = let p : old + l * n + a ≡ old + (l * n + a) = omega arith in rw (e, p)
+
+  pub witness-second : (x : ℕ) → x ≡ sumBut draws (old + l * n) 1 n a % q → x % q ≡ witnessOf q n draws old new a l 1 % q
+  unfolding witnessOf sumBut
+  witness-second x e =
+      let s : sumBelow n (λ i. cond (eqb i a) 0 (getD draws (old + l * n + 1 * i) 0)) ≡ sumBelow n (λ j. cond (eqb j a) 0 (drawn draws old n l j)) =
+      sum-same n _ _ (λ j h. let p : old + l * n + 1 * j ≡ old + (l * n + j) = omega arith in rw p) in
+      rw (e, s, mod-mod)
+
+  pub witness-later : (c x : ℕ) → x ≡ (getD draws (new + c) 0 + (q - getD draws (old + (source l (c / n) * n + c % n)) 0)) % q →
+      x % q ≡ witnessOf q n draws old new a l (2 + c) % q
+  unfolding witnessOf
+  witness-later c x e = let two : 2 + c ≡ suc (suc c) = omega arith in rw (two, e, mod-mod, div-add-mod' c n)
+
+  pub witnessed-more : (c x : ℕ) (s : List ℕ) → Witnessed q n draws old new a l c s → c < 64 → x % q ≡ witnessOf q n draws old new a l c % q →
+      Witnessed q n draws old new a l (c + 1) (set s c x)
+  witnessed-more c x s w h e =
+      record {
+        long = length-set s c x ∙ w .long;
+        each = λ i k.
+            ⊎-elim (λ (m : i ≡ c). rw (m, getD-set-same s c x 0 (omega (arith, w .long))) e)
+            (λ (m : i < c). rw (getD-set-other s c i x 0 (λ z. omega arith)) (w .each i m))
+            (eq-or-lt-of-le {n = i} {m = c} (omega arith));
+      }
+
+  pub witnessed-none : (s : List ℕ) → length s ≡ 64 → Witnessed q n draws old new a l 0 s
+  witnessed-none s e = record { long = e; each = λ i h. absurd (omega arith) }
+
+-- a row of the matrix before is within it
+pub within : (n rows l : ℕ) → l < rows → l * n + n ≤ rows * n
+within n rows l h = let u : (l + 1) * n ≤ rows * n = mul-le-mul-right n (omega arith) in omega arith
+
+-- the pair before that a new pair comes from is within the matrix before
+pub source-within : (n rows l c : ℕ) → 0 < n → c < rows * n → source l (c / n) * n + c % n < (rows + 1) * n
+source-within n rows l c some h =
+    let low : c / n < rows = div-lt-iff-lt-mul some .1 h in
+    let w : source l (c / n) * n + n ≤ (rows + 1) * n = within n (rows + 1) (source l (c / n)) (source-below l (c / n) rows low) in
+    omega (arith, mod-lt c some)

@@ -1,0 +1,67 @@
+use Prim.Native.Nat.{ℕ, _+_, _-_, _*_, _≤_, _<_}
+use mathlib.Core.Path.{_≡_, refl, _∙_}
+use native.Mathlib.Nat.{mul-comm}
+use native.Mathlib.Omega.{arith}
+use lib.ListN.{length, getD, length-take, length-drop}
+use denote.Ref.{now}
+use Rattle.numbers.specs.Below.{blocks}
+use Rattle.group.specs.Elements.{parametersOf}
+use Rattle.output.specs.Written.{written}
+use Rattle.output.proofs.Laws.{none, block-more}
+use Rattle.ballots.specs.Parts.{entryIn}
+use Rattle.ballots.proofs.Entries.{cells, length-entry}
+use borrow.Author.Needs.{needs}
+use Rattle.ballots.proofs.ballot.write_entries.Statement.{statement}
+use Rattle.ballots.proofs.ballot.write_entries.Tie as tie
+
+abbrev Inv-loop : tie.InvT-loop
+Inv-loop out₀ label g n list page draws from count c₀ out c =
+    (c ≤ n * n) × (length out ≡ length out₀) × (out ≡ written (blocks c (entryIn label (parametersOf (g .group)) n (λ k. getD list k 0) draws from)) out₀)
+
+abbrev μ-loop : tie.MeasureT-loop
+μ-loop out₀ label g n list page draws from count c₀ out c = n * n - c
+
+loop-holds : tie.Need-loop-holds Inv-loop μ-loop
+unfolding blocks
+loop-holds c = (omega arith, refl, none _)
+
+write-entry-requires : tie.Need-write-entry-requires Inv-loop μ-loop
+write-entry-requires c κs =
+    let s = c .before .before .before .before .before .before .before in
+    let p = s .pre .0 in
+    ((p .0, p .1, p .2, omega arith, simp (length-take, length-drop) (omega (arith, p .3, c .before .before .loop .inv .1)), p .4), (s .pre .1 .0, s .pre .1 .1))
+
+loop-again : tie.Need-loop-again Inv-loop μ-loop
+loop-again c =
+    let l = c .before .before .before .before .before .loop in
+    let f = c .before .before .before .before .before .before .before .before .before .before .args in (
+      omega arith,
+      search needs,
+      block-more (entryIn (now (f .label)) (parametersOf (f .g .group)) (f .n) (λ k. getD (f .list) k 0) (now (f .draws)) (f .from)) 32 (l .c) _ _ (l .out) _ (λ j h. length-entry _ _ _ _ _ _ _ _) (mul-comm 32 (l .c)) (l .inv .2) (c .before .before .write-entry .ensures),
+    )
+
+returns : tie.Need-returns Inv-loop μ-loop
+returns c =
+    let l = c .before .loop in
+    let f = c .before .before .before .before .before .before .args in
+    let e : l .c ≡ f .n * f .n = omega arith in
+    l .inv .2 ∙ rw e
+
+pub write-entries-spec : {M : Type 1} → statement M
+write-entries-spec =
+    tie.close
+    (tie.spec
+    Inv-loop
+    μ-loop
+    (λ c. let s = c .before .before .before .before in omega (arith, cells (s .args .n) (omega (arith, s .pre .0))))
+    loop-holds
+    (λ c. let s = c .before .before .before .before .before .before in omega (arith, cells (s .args .n) (omega (arith, s .pre .0))))
+    (λ c. omega (arith, c .before .before .before .before .before .before .pre .0, c .before .loop .inv .1))
+    (λ c. omega (arith, c .before .before .before .before .before .before .pre .0, c .before .loop .inv .1))
+    (λ c. omega (arith, c .before .before .before .before .before .before .pre .0, c .before .loop .inv .1))
+    write-entry-requires
+    (λ c. let s = c .before .before .before .before .before .before .before .before .before .before in omega (arith, cells (s .args .n) (omega (arith, s .pre .0)), c .before .before .before .before .loop-test .taken))
+    (λ c. search needs)
+    loop-again
+    (λ c. search needs)
+    returns)

@@ -1,0 +1,84 @@
+// A ballot's record in a later round: its pairs and the proof of the shift.
+use crate::pairs;
+use crate::sums;
+use group::Group;
+use proving::Plan;
+use statements::Setup;
+use statements::claims;
+use statements::claims::Claim;
+ghost use mathlib.Core.Path.{_≡_};
+ghost use Prim.Native.Nat.{ℕ, _+_, _*_, _≤_, _<_};
+ghost use lib.ListN.{length};
+ghost use Rattle.group.specs.Elements.{parametersOf};
+ghost use Rattle.statements.specs.Values.{Ready};
+ghost use Rattle.output.specs.Written.{written};
+ghost use Rattle.ballots.specs.Parts.{Paged, Shifting, oldMatrix, newMatrix, shiftProofOf, shiftOf};
+
+// A shift: its ballot's number, the processes of the rows before and after, the row struck, the column gone out, and where the draws of the
+// two records start.
+pub struct Shift {
+    pub n: usize,
+    pub rows: usize,
+    pub number: u32,
+    pub before: [u8; 8],
+    pub after: [u8; 8],
+    pub struck: usize,
+    pub column: usize,
+    pub old: usize,
+    pub new: usize,
+}
+
+// A page with the matrix before where the record at its start would have it, and the new one where that at 512 would.
+fn pages_of(g: Group, s: Shift, draws: &[u32]) -> [u8; 1028]
+    requires { ⌜ Shifting (g .p) (g .q) s (now draws) ⌝ }
+    ensures { λ r. ⌜ (length r ≡ 1028) × Paged r 0 (s .rows + 1) (s .n) (oldMatrix (parametersOf g) s (now (draws .entry))) × Paged r 512 (s .rows) (s .n) (newMatrix (parametersOf g) s (now (draws .entry))) ⌝ }
+{
+    let n = s.n;
+    let before = s.before;
+    let after = s.after;
+    let mut page = [0u8; 1028];
+    pairs::write_pairs(&mut page[4..], g, n, s.rows + 1, before, draws, s.old);
+    pairs::write_pairs(&mut page[516..], g, n, s.rows, after, draws, s.new);
+    page
+}
+
+fn write_shift_proof(out: &mut [u8], label: &[u8], g: Setup, s: Shift, page: &[u8], draws: &[u32])
+    requires { ⌜ Ready g × Shifting (g .group .p) (g .group .q) s (now draws) × ((s .rows + 1) * (28 + 12 * (s .rows * s .n)) ≤ length (now out)) × (1028 ≤ length (now page)) ⌝ }
+    requires { ⌜ Paged (now page) 0 (s .rows + 1) (s .n) (oldMatrix (parametersOf (g .group)) s (now draws)) × Paged (now page) 512 (s .rows) (s .n) (newMatrix (parametersOf (g .group)) s (now draws)) ⌝ }
+    ensures { λ _. ⌜ now (out .exit) ≡ written (shiftProofOf (now (label .entry)) (parametersOf (g .group)) s (now (draws .entry))) (now (out .entry)) ⌝ }
+{
+    let n = s.n;
+    let rows = s.rows;
+    let a = s.column;
+    let p = g.group.p;
+    let q = g.group.q;
+    let w = sums::witnesses(q, n, rows, a, s.struck, draws, s.old, s.new);
+    let inverses = claims::inverse_table(page, p, q, 0, 2 * ((rows + 1) * n));
+    let claim = Claim::Shift {
+        before: 0,
+        new: 512,
+        rows,
+        a,
+    };
+    let plan = Plan {
+        branches: rows + 1,
+        statements: 2 + rows * n,
+        known: s.struck,
+        from: s.new + rows * n,
+    };
+    proving::make(out, label, g, page, &inverses, n, claim, plan, &w, draws);
+}
+
+pub fn write_shift(out: &mut [u8], label: &[u8], g: Setup, s: Shift, draws: &[u32])
+    requires { ⌜ Ready g × Shifting (g .group .p) (g .group .q) s (now draws) ⌝ }
+    requires { ⌜ 4 + 8 * (s .rows * s .n) + (s .rows + 1) * (28 + 12 * (s .rows * s .n)) ≤ length (now out) ⌝ }
+    ensures { λ _. ⌜ now (out .exit) ≡ written (shiftOf (now (label .entry)) (parametersOf (g .group)) s (now (draws .entry))) (now (out .entry)) ⌝ }
+{
+    let group = g.group;
+    let count = s.rows * s.n;
+    let page = pages_of(group, s, draws);
+    let end = 516 + 8 * count;
+    pairs::put_front(out, 83, 72, s.number, &page[516..end]);
+    let at = 4 + 8 * count;
+    write_shift_proof(&mut out[at..], label, g, s, &page, draws);
+}

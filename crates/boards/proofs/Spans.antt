@@ -1,0 +1,33 @@
+-- Where the draws of records lie. Assumes nothing.
+use Prim.Native.Nat.{ℕ, zero, suc, _+_, _*_, _-_, _≤_, _<_}
+use mathlib.Core.Path.{_≡_, refl, sym, ap, _∙_}
+use native.Mathlib.Nat.{mul-le-mul-right}
+use native.Mathlib.Omega.{arith}
+use Rattle.jobs.specs.Job.{recordDraws, roundDraws, drawsAt}
+
+pub draws-within : (n K m b : ℕ) → b < K → drawsAt n K m b + recordDraws n m ≤ roundDraws n K (suc m)
+unfolding roundDraws
+draws-within n K m b h =
+    let u : (b + 1) * recordDraws n m ≤ K * recordDraws n m = mul-le-mul-right (recordDraws n m) (omega arith) in
+    omega arith
+
+pub round-more : (n K m : ℕ) → roundDraws n K (suc m) ≡ roundDraws n K m + K * recordDraws n m
+unfolding roundDraws
+round-more n K m = refl
+
+-- a record's secrets are among its draws
+pub secrets-within : (n m : ℕ) → (n - m) * n ≤ recordDraws n m
+unfolding recordDraws
+secrets-within n zero = let u : (n - 0) * n ≤ n * n = mul-le-mul-right n (omega arith) in omega arith
+secrets-within n (suc m) = omega arith
+
+pub up-to : (b k n : ℕ) → b < k → b * n + n ≤ k * n
+up-to b k n h = let u : (b + 1) * n ≤ k * n = mul-le-mul-right n (omega arith) in omega arith
+
+-- the first pairs of a round's ballots are among its draws
+pub columns-within : (n K m : ℕ) → m + 1 ≤ n → 1 ≤ K → roundDraws n K m + n + recordDraws n m * (K - 1) ≤ roundDraws n K (suc m)
+columns-within n K m h k =
+    let r = recordDraws n m in
+    let e : K ≡ K - 1 + 1 = omega arith in
+    let u : 1 * n ≤ (n - m) * n = mul-le-mul-right n (omega arith) in
+    omega (arith, round-more n K m, secrets-within n m, ap (λ (x : ℕ). x * r) e)

@@ -1,0 +1,61 @@
+-- A ballot's record in a later round, from what the code works out. Assumes nothing.
+use Prim.Native.Nat.{ℕ, zero, suc, _+_, _*_, _-_, _≤_, _<_, _^_}
+use mathlib.Core.Path.{_≡_, refl, sym, ap, _∙_}
+use mathlib.Core.List.{List, [], _∷_, _++_}
+use native.Mathlib.Omega.{arith}
+use lib.ListN.{length, take, replicate}
+use lib.Seq.{take-at}
+use Rattle.sha256.specs.Message.{sha256}
+use Rattle.group.specs.Elements.{Parameters}
+use Rattle.rules.specs.Answers.{padded}
+use Rattle.jobs.specs.Job.{Job, standing, placeOf, rankingOf, recordDraws, roundDraws, drawsAt}
+use Rattle.jobs.specs.Board.{recordBytes}
+use Rattle.proving.specs.Plans.{Spread}
+use Rattle.ballots.specs.declared.shift.Shift.{Shift}
+use Rattle.ballots.specs.Parts.{Shifting, shiftOf}
+use Rattle.ballots.proofs.Entries.{spread-part}
+use Rattle.boards.proofs.Links.{shiftFor, shift-is}
+use Rattle.boards.proofs.Spans.{draws-within, secrets-within, round-more}
+
+-- the whole of a list stands at the front of it padded
+pub front-of : (l : List ℕ) (n : ℕ) → length l ≡ n → take n (padded l) ≡ l
+unfolding padded
+front-of l n e = take-at l (replicate (8 - length l) 0) n e
+
+pub place-is : (a size n p : ℕ) (list l : List ℕ) → p ≡ placeOf a (take size list) → list ≡ padded l → size ≡ n → length l ≡ n → p ≡ placeOf a l
+place-is a size n p list l ep el es en = ep ∙ rw (el, es, front-of l n en)
+
+module _ (job : Job) (g : Parameters) (k j : ℕ) (before : List ℕ) (a : ℕ) (s : Shift)
+    (en : s .n ≡ job .n) (er : s .rows ≡ job .n - suc j) (enu : s .number ≡ k + 1)
+    (eb : s .before ≡ padded (standing before (rankingOf job k))) (ea : s .after ≡ padded (standing (before ++ (a ∷ [])) (rankingOf job k)))
+    (es : s .struck ≡ placeOf a (standing before (rankingOf job k))) (ec : s .column ≡ a - 1)
+    (eo : s .old ≡ drawsAt (job .n) (job .K) j k) (ew : s .new ≡ drawsAt (job .n) (job .K) (suc j) k) where
+  pub later-is : (m : ℕ) → m ≡ suc j → shiftOf (job .label) g s (job .draws) ≡ recordBytes sha256 job g before a m k
+  later-is m e =
+      let same : s ≡ shiftFor job g k before a j =
+      λ i. record { n = en i; rows = er i; number = enu i; before = eb i; after = ea i; struck = es i; column = ec i; old = eo i; new = ew i } in
+      ap (λ (s : Shift). shiftOf (job .label) g s (job .draws)) same ∙ shift-is job g k before a j ∙ ap (λ (m : ℕ). recordBytes sha256 job g before a m k) (sym e)
+
+  pub shifting : (p : ℕ) → 0 < p → job .n ≤ 8 → suc j + 2 ≤ job .n → k < job .K → 1 ≤ a → a ≤ job .n → placeOf a (standing before (rankingOf job k)) < job .n - j →
+      Spread (job .q) (job .draws) 0 (roundDraws (job .n) (job .K) (suc (suc j))) → Shifting p (job .q) s (job .draws)
+  unfolding recordDraws
+  shifting p hp few early low one high place d =
+      let here = draws-within (job .n) (job .K) (suc j) k low in
+      let there = draws-within (job .n) (job .K) j k low in
+      let inner = secrets-within (job .n) j in
+      let more = round-more (job .n) (job .K) (suc j) in
+      let rows : s .rows + 1 ≡ job .n - j = omega arith in
+      let cells : (s .rows + 1) * s .n ≡ (job .n - j) * job .n = rw (rows, en) in
+      let new-cells : s .rows * s .n ≡ (job .n - suc j) * job .n = rw (er, en) in
+      let long : s .rows * s .n + (s .rows + 1) * (3 + s .rows * s .n) - 1 ≡ recordDraws (job .n) (suc j) = rw (er, en) (omega arith) in
+      record {
+        modulus = hp;
+        some = omega arith;
+        few = omega arith;
+        left = omega arith;
+        fewer = omega arith;
+        inside = omega arith;
+        within = omega arith;
+        olds = rw cells (spread-part (job .q) (job .draws) 0 _ (s .old) ((job .n - j) * job .n) d (omega arith));
+        news = rw long (spread-part (job .q) (job .draws) 0 _ (s .new) (recordDraws (job .n) (suc j)) d (omega arith));
+      }

@@ -1,0 +1,121 @@
+use Prim.Native.Nat.{ℕ, suc, _+_, _*_, _-_, _≤_, _<_}
+use mathlib.Core.Path.{_≡_, refl, sym, ap, _∙_}
+use native.Mathlib.Numerals.{add-one}
+use native.Mathlib.Omega.{arith}
+use lib.ListN.{length, length-take, length-drop}
+use denote.Ref.{now}
+use Rattle.numbers.specs.Below.{blocks}
+use Rattle.sha256.specs.Message.{sha256}
+use Rattle.group.specs.Elements.{parametersOf}
+use Rattle.rules.specs.Records.{recordLength, sheetLength, roundAt}
+use Rattle.jobs.specs.Job.{recordDraws, roundDraws}
+use Rattle.output.specs.Written.{written}
+use Rattle.output.proofs.Laws.{none}
+use Rattle.plain.proofs.Counted.{draws-more, length-more}
+use Rattle.boards.specs.Parts.{boardJob, roundOf}
+use Rattle.boards.proofs.Stages.{draws-mono, place-mono, place-next, able-down, rounds-more}
+use borrow.Author.Needs.{needs}
+use Rattle.boards.proofs.rounds.write_rounds.Statement.{statement}
+use Rattle.boards.proofs.rounds.write_rounds.Tie as tie
+
+abbrev Inv-loop : tie.InvT-loop
+Inv-loop out₀ label g size rankings draws order count n k at₀ from₀ m₀ out at from m =
+    (m ≤ count) × (length out ≡ length out₀) × (at + 54 ≡ roundAt (size .n) (size .k) m) × (from ≡ roundDraws (size .n) (size .k) m)
+    × (out ≡ written (blocks m (roundOf sha256 (boardJob size (parametersOf (g .group)) label rankings draws) (parametersOf (g .group)) order)) out₀)
+
+abbrev μ-loop : tie.MeasureT-loop
+μ-loop out₀ label g size rankings draws order count n k at₀ from₀ m₀ out at from m = count - m
+
+loop-holds : tie.Need-loop-holds Inv-loop μ-loop
+unfolding blocks roundAt roundDraws
+loop-holds c = (omega arith, refl, refl, refl, none _)
+
+-- the round and its end are within the board
+within : (c : tie.In-loop Inv-loop μ-loop) →
+    c .before .loop .at + c .before .before .before .before .before .before .args .size .k * recordLength (c .before .before .before .before .before .before .args .size .n) (c .before .loop .m) + sheetLength (c .before .before .before .before .before .before .args .size .n) ≤ length (now (c .before .before .before .before .before .before .args .out))
+within c =
+    let s = c .before .before .before .before .before .before in
+    let f = s .args in
+    let l = c .before .loop in
+    omega (arith, place-next (f .size .n) (f .size .k) (l .m), place-mono (f .size .n) (f .size .k) (l .m + 1) (f .count) (omega arith), s .pre .2, l .inv .2)
+
+write-round-requires : tie.Need-write-round-requires Inv-loop μ-loop
+write-round-requires c κs =
+    let s = c .before .before .before .before .before .before .before in
+    let f = s .args in
+    let l = c .before .before .loop in
+    let job = boardJob (f .size) (parametersOf (f .g .group)) (now (f .label)) (now (f .rankings)) (now (f .draws)) in
+    (s .pre .0, able-down job (f .order) (f .count) (l .m) (omega arith) (s .pre .1), l .inv .3, simp (length-take, length-drop) (omega (arith, within (c .before), l .inv .1)))
+
+-- the next round's place
+place : (c : tie.After-record-length Inv-loop μ-loop) →
+    c .before .before .before .before .before .before .loop .at + (c .before .before .before .before .before .before .before .before .before .before .before .args .size .k * c .record-length .result + 4 + 6 * c .before .before .before .before .before .before .before .before .before .before .before .args .size .n) + 54 ≡ roundAt (c .before .before .before .before .before .before .before .before .before .before .before .args .size .n) (c .before .before .before .before .before .before .before .before .before .before .before .args .size .k) (c .before .before .before .before .before .before .loop .m + 1)
+place c =
+    let f = c .before .before .before .before .before .before .before .before .before .before .before .args in
+    let l = c .before .before .before .before .before .before .loop in
+    omega (arith, length-more (f .size .n) (f .size .k) (l .m) (l .at + 54) (c .record-length .result) (l .inv .2) (c .record-length .ensures .0))
+
+inside : (c : tie.After-record-length Inv-loop μ-loop) → roundAt (c .before .before .before .before .before .before .before .before .before .before .before .args .size .n) (c .before .before .before .before .before .before .before .before .before .before .before .args .size .k) (c .before .before .before .before .before .before .loop .m + 1) ≤ length (now (c .before .before .before .before .before .before .before .before .before .before .before .args .out)) + 54
+inside c =
+    let s = c .before .before .before .before .before .before .before .before .before .before .before in
+    let f = s .args in
+    omega (arith, place-mono (f .size .n) (f .size .k) (c .before .before .before .before .before .before .loop .m + 1) (f .count) (omega (arith, c .before .before .before .before .before .loop-test .taken)), s .pre .2)
+
+draws-next : (c : tie.After-record-draws Inv-loop μ-loop) →
+    c .before .before .before .before .before .before .before .loop .from + c .before .before .before .before .before .before .before .before .before .before .before .before .args .size .k * c .record-draws .result ≡ roundDraws (c .before .before .before .before .before .before .before .before .before .before .before .before .args .size .n) (c .before .before .before .before .before .before .before .before .before .before .before .before .args .size .k) (c .before .before .before .before .before .before .before .loop .m + 1)
+draws-next c =
+    let f = c .before .before .before .before .before .before .before .before .before .before .before .before .args in
+    let l = c .before .before .before .before .before .before .before .loop in
+    draws-more (f .size .n) (f .size .k) (l .m) (l .from) (c .record-draws .result) (l .inv .3) (c .record-draws .ensures .0)
+
+near : (c : tie.After-record-draws Inv-loop μ-loop) → roundDraws (c .before .before .before .before .before .before .before .before .before .before .before .before .args .size .n) (c .before .before .before .before .before .before .before .before .before .before .before .before .args .size .k) (c .before .before .before .before .before .before .before .loop .m + 1) ≤ 10000000
+near c =
+    let s = c .before .before .before .before .before .before .before .before .before .before .before .before in
+    let f = s .args in
+    omega (arith, draws-mono (f .size .n) (f .size .k) (c .before .before .before .before .before .before .before .loop .m + 1) (f .count) (omega (arith, c .before .before .before .before .before .before .loop-test .taken)), s .pre .1 .low)
+
+loop-again : tie.Need-loop-again Inv-loop μ-loop
+loop-again c =
+    let l = c .before .before .before .before .before .before .before .loop in
+    let s = c .before .before .before .before .before .before .before .before .before .before .before .before in
+    let f = s .args in
+    let g = parametersOf (f .g .group) in
+    let job = boardJob (f .size) g (now (f .label)) (now (f .rankings)) (now (f .draws)) in (
+      omega (arith, c .before .before .before .before .before .before .loop-test .taken),
+      search needs,
+      place (c .before),
+      draws-next c,
+      rounds-more sha256 job g (f .order) (l .m) (l .at) _ (l .out) _ (l .inv .2) (l .inv .4) (c .before .before .before .before .write-round .ensures),
+    )
+
+returns : tie.Need-returns Inv-loop μ-loop
+returns c =
+    let l = c .before .loop in
+    let e : l .m ≡ c .before .before .before .before .before .before .args .count = omega arith in
+    l .inv .4 ∙ rw e
+
+pub write-rounds-spec : {M : Type 1} → statement M
+write-rounds-spec =
+    tie.close
+    (tie.spec
+    Inv-loop
+    μ-loop
+    loop-holds
+    (λ c. omega (arith, within c, c .before .loop .inv .1))
+    (λ c. omega (arith, within c, c .before .loop .inv .1))
+    (λ c. omega (arith, within c, c .before .loop .inv .1))
+    write-round-requires
+    (λ c κs. (c .before .before .before .before .before .before .before .before .before .before .pre .1 .n-high, omega (arith, c .before .before .before .before .before .before .before .before .before .before .pre .1 .few, c .before .before .before .before .loop-test .taken)))
+    (λ c. omega (arith, place c, inside c, c .before .before .before .before .before .before .before .before .before .before .before .good))
+    (λ c. omega (arith, place c, inside c, c .before .before .before .before .before .before .before .before .before .before .before .good))
+    (λ c. omega (arith, place c, inside c, c .before .before .before .before .before .before .before .before .before .before .before .good))
+    (λ c. omega (arith, place c, inside c, c .before .before .before .before .before .before .before .before .before .before .before .good))
+    (λ c. omega (arith, place c, inside c, c .before .before .before .before .before .before .before .before .before .before .before .good))
+    (λ c κs. (c .before .before .before .before .before .before .before .before .before .before .before .pre .1 .n-high, omega (arith, c .before .before .before .before .before .before .before .before .before .before .before .pre .1 .few, c .before .before .before .before .before .loop-test .taken)))
+    (λ c. omega (arith, draws-next c, near c))
+    (λ c. omega (arith, draws-next c, near c))
+    (λ c. omega (arith, c .before .before .before .before .before .before .loop-test .taken, c .before .before .before .before .before .before .before .before .before .before .before .before .pre .1 .few, c .before .before .before .before .before .before .before .before .before .before .before .before .pre .1 .n-high))
+    (λ c. omega (arith, c .before .before .before .before .before .before .loop-test .taken))
+    loop-again
+    (λ c. search needs)
+    returns)

@@ -1,0 +1,70 @@
+use Prim.Native.Nat.{ℕ, _+_, _-_, _*_, _≤_, _<_}
+use mathlib.Core.Path.{_≡_, refl, _∙_}
+use mathlib.Core.List.{List, [], _∷_, _++_}
+use native.Mathlib.Omega.{arith}
+use lib.ListN.{length}
+use denote.Ref.{now}
+use Rattle.output.specs.Written.{written}
+use Rattle.output.proofs.Laws.{more}
+use Rattle.boards.specs.Parts.{sheetIn}
+use Rattle.boards.proofs.Columns.{sheet-none, sheet-more}
+use borrow.Author.Needs.{needs}
+use Rattle.boards.proofs.sheet.write_sheet.Statement.{statement}
+use Rattle.boards.proofs.sheet.write_sheet.Tie as tie
+
+abbrev Inv-loop : tie.InvT-loop
+Inv-loop out₀ q n m gone draws from stride k counts i₀ out i =
+    (i ≤ n) × (length out ≡ length out₀)
+    × ((o : List ℕ) → out₀ ≡ written ((82 ∷ 84 ∷ []) ++ ((m + 1) ∷ gone ∷ [])) o → out ≡ written (sheetIn i q draws from stride k m gone counts) o)
+
+abbrev μ-loop : tie.MeasureT-loop
+μ-loop out₀ q n m gone draws from stride k counts i₀ out i = n - i
+
+loop-holds : tie.Need-loop-holds Inv-loop μ-loop
+loop-holds c =
+    let f = c .before .before .before .before .before .before .before .before .before .before .before .args in
+    (omega arith, refl, λ o h. h ∙ sheet-none 0 (f .q) (now (f .draws)) (f .from) (f .stride) (f .k) (f .m) (f .gone) (f .sheet .counts) o)
+
+loop-again : tie.Need-loop-again Inv-loop μ-loop
+loop-again c =
+    let l = c .before .before .before .before .before .loop in
+    let f = c .before .before .before .before .before .before .before .before .before .before .before .before .before .before .before .before .before .args in (
+      omega arith,
+      search needs,
+      λ o h. sheet-more 0 (f .q) (now (f .draws)) (f .from) (f .stride) (f .k) (f .m) (f .gone) (f .sheet .counts) (l .i) _ o (l .out) _ refl (l .inv .2 o h) (c .before .before .write-tally .ensures),
+    )
+
+returns : tie.Need-returns Inv-loop μ-loop
+returns c =
+    let l = c .before .loop in
+    let f = c .before .before .before .before .before .before .before .before .before .before .before .before .before .args in
+    let e : l .i ≡ f .n = omega arith in
+    l .inv .2 _ (more _ _ _ _ _ _ refl (c .before .before .before .before .before .before .before .before .put-two .ensures) (c .before .before .before .before .put-two2 .ensures)) ∙ rw e
+
+pub write-sheet-spec : {M : Type 1} → statement M
+write-sheet-spec =
+    tie.close
+    (tie.spec
+    Inv-loop
+    μ-loop
+    (λ c κs. search needs)
+    (λ c. search needs)
+    (λ c. search needs)
+    (λ c. search needs)
+    (λ c. search needs)
+    (λ c κs. search needs)
+    loop-holds
+    (λ c. search needs)
+    (λ c. search needs)
+    (λ c. search needs)
+    (λ c. search needs)
+    (λ c. search needs)
+    (λ c. search needs)
+    (λ c. search needs)
+    (λ c. search needs)
+    (λ c κs. search needs)
+    (λ c. search needs)
+    (λ c. search needs)
+    loop-again
+    (λ c. search needs)
+    returns)

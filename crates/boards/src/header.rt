@@ -1,0 +1,51 @@
+// The header of a board.
+use crate::Size;
+use group::Group;
+ghost use mathlib.Core.Path.{_≡_};
+ghost use mathlib.Core.List.{[], _∷_, _++_};
+ghost use Prim.Native.Nat.{_≤_, _<_};
+ghost use lib.ListN.{length};
+ghost use Rattle.sha256.specs.Message.{sha256};
+ghost use Rattle.group.specs.Elements.{parametersOf};
+ghost use Rattle.rules.specs.Bytes.{bytes4};
+ghost use Rattle.jobs.specs.Board.{headerBytes};
+ghost use Rattle.output.specs.Written.{written};
+ghost use Rattle.boards.specs.Parts.{boardJob};
+
+fn low(x: usize) -> u8
+    requires { ⌜ x < 256 ⌝ }
+    ensures { λ r. ⌜ r ≡ x ⌝ }
+{
+    x as u8
+}
+
+fn half(x: usize) -> u32
+    requires { ⌜ x < 65536 ⌝ }
+    ensures { λ r. ⌜ r ≡ x ⌝ }
+{
+    x as u32
+}
+
+fn put_group(out: &mut [u8], g: Group, counter: u8)
+    requires { ⌜ 17 ≤ length (now out) ⌝ }
+    ensures { λ _. ⌜ now (out .exit) ≡ written (bytes4 (g .p) ++ bytes4 (g .q) ++ bytes4 (g .g0 .0) ++ (counter ∷ []) ++ bytes4 (g .g1 .0)) (now (out .entry)) ⌝ }
+{
+    output::put_word(out, g.p);
+    output::put_word(&mut out[4..], g.q);
+    output::put_word(&mut out[8..], g.g0.0);
+    output::put_byte(&mut out[12..], counter);
+    output::put_word(&mut out[13..], g.g1.0);
+}
+
+pub fn write_header(out: &mut [u8], size: Size, g: Group, label: &[u8])
+    requires { ⌜ (size .n < 256) × (size .k < 65536) × (length (now label) ≡ 32) × (54 ≤ length (now out)) ⌝ }
+    ensures { λ _. ⌜ now (out .exit) ≡ written (headerBytes sha256 (boardJob size (parametersOf g) (now (label .entry)) [] []) (parametersOf g)) (now (out .entry)) ⌝ }
+{
+    let n = low(size.n);
+    let k = half(size.k);
+    output::put_two(out, 72, 68);
+    output::put_byte(&mut out[2..], n);
+    output::put_half(&mut out[3..], k);
+    put_group(&mut out[5..], g, size.counter);
+    output::put_bytes(&mut out[22..], label);
+}

@@ -1,0 +1,158 @@
+// The rounds of a board, each into the unwritten rest of the output.
+use crate::Size;
+use crate::header;
+use crate::records;
+use crate::records::Turn;
+use crate::sheet;
+use plain::rankings;
+use plain::rounds;
+use plain::votes;
+use statements::Setup;
+ghost use mathlib.Core.Path.{_≡_};
+ghost use mathlib.Core.List.{_++_};
+ghost use Prim.Native.Nat.{ℕ, suc, _+_, _*_, _^_, _≤_, _<_};
+ghost use lib.ListN.{length};
+ghost use Rattle.numbers.specs.Below.{blocks};
+ghost use Rattle.sha256.specs.Message.{sha256};
+ghost use Rattle.group.specs.Elements.{parametersOf};
+ghost use Rattle.rules.specs.Records.{recordLength, sheetLength, roundAt};
+ghost use Rattle.jobs.specs.Job.{roundDraws};
+ghost use Rattle.jobs.specs.Board.{headerBytes};
+ghost use Rattle.output.specs.Written.{written};
+ghost use Rattle.statements.specs.Values.{Ready};
+ghost use Rattle.boards.specs.Parts.{boardJob, Told, Able, roundOf};
+
+fn low(x: usize) -> u8
+    requires { ⌜ x < 256 ⌝ }
+    ensures { λ r. ⌜ r ≡ x ⌝ }
+{
+    x as u8
+}
+
+// Round m of a board whose processes go out in an order; its draws start at a place.
+fn turn_of(size: Size, order: [u8; 8], m: usize, from: usize) -> Turn
+    requires { ⌜ (size .n ≤ 8) × (m < size .n) × (size .k ≤ 1000) × (from ≡ roundDraws (size .n) (size .k) m) ⌝ }
+    ensures { λ r. ⌜ Told (size .n) (size .k) order m r ⌝ }
+{
+    let gone = rankings::first_of(order, m);
+    if m == 0 {
+        return Turn {
+            m,
+            before: gone,
+            gone,
+            a: 0,
+            old: 0,
+            new: from,
+        };
+    }
+    let last = m - 1;
+    let before = rankings::first_of(order, last);
+    Turn {
+        m,
+        before,
+        gone,
+        a: order[last],
+        old: from - size.k * rounds::record_draws(size.n, last),
+        new: from,
+    }
+}
+
+// Its records, and its sheet.
+fn write_round(
+    out: &mut [u8],
+    label: &[u8],
+    g: Setup,
+    size: Size,
+    rankings: &[u8],
+    draws: &[u32],
+    order: [u8; 8],
+    m: usize,
+    from: usize,
+)
+    requires { ⌜ Ready g × Able (boardJob size (parametersOf (g .group)) (now label) (now rankings) (now draws)) order (suc m) × (from ≡ roundDraws (size .n) (size .k) m) × (size .k * recordLength (size .n) m + sheetLength (size .n) ≤ length (now out)) ⌝ }
+    ensures { λ _. ⌜ now (out .exit) ≡ written (roundOf sha256 (boardJob size (parametersOf (g .group)) (now (label .entry)) (now (rankings .entry)) (now (draws .entry))) (parametersOf (g .group)) order m) (now (out .entry)) ⌝ }
+{
+    let n = size.n;
+    let k = size.k;
+    let turn = turn_of(size, order, m, from);
+    records::write_records(out, label, g, size, rankings, draws, turn);
+    let at = k * rounds::record_length(n, m);
+    let stride = rounds::record_draws(n, m);
+    let gone = turn.gone;
+    let counts = votes::tally(rankings, n, k, gone);
+    let q = g.group.q;
+    sheet::write_sheet(
+        &mut out[at..],
+        q,
+        n,
+        low(m),
+        order[m],
+        counts,
+        draws,
+        from,
+        stride,
+        k,
+    );
+}
+
+fn write_rounds(
+    out: &mut [u8],
+    label: &[u8],
+    g: Setup,
+    size: Size,
+    rankings: &[u8],
+    draws: &[u32],
+    order: [u8; 8],
+    count: usize,
+)
+    requires { ⌜ Ready g × Able (boardJob size (parametersOf (g .group)) (now label) (now rankings) (now draws)) order count × (roundAt (size .n) (size .k) count ≤ length (now out) + 54) ⌝ }
+    ensures { λ _. ⌜ now (out .exit) ≡ written (blocks count (roundOf sha256 (boardJob size (parametersOf (g .group)) (now (label .entry)) (now (rankings .entry)) (now (draws .entry))) (parametersOf (g .group)) order)) (now (out .entry)) ⌝ }
+{
+    let n = size.n;
+    let k = size.k;
+    let mut at = 0;
+    let mut from = 0;
+    for m in 0..count {
+        write_round(
+            &mut out[at..],
+            label,
+            g,
+            size,
+            rankings,
+            draws,
+            order,
+            m,
+            from,
+        );
+        at += k * rounds::record_length(n, m) + 4 + 6 * n;
+        from += k * rounds::record_draws(n, m);
+    }
+}
+
+// The whole board.
+pub fn write_board(
+    out: &mut [u8],
+    label: &[u8],
+    g: Setup,
+    size: Size,
+    rankings: &[u8],
+    draws: &[u32],
+    order: [u8; 8],
+    count: usize,
+)
+    requires { ⌜ Ready g × Able (boardJob size (parametersOf (g .group)) (now label) (now rankings) (now draws)) order count × (length (now label) ≡ 32) × (54 ≤ length (now out)) × (roundAt (size .n) (size .k) count ≤ length (now out)) ⌝ }
+    ensures { λ _. ⌜ now (out .exit) ≡ written (headerBytes sha256 (boardJob size (parametersOf (g .group)) (now (label .entry)) (now (rankings .entry)) (now (draws .entry))) (parametersOf (g .group)) ++ blocks count (roundOf sha256 (boardJob size (parametersOf (g .group)) (now (label .entry)) (now (rankings .entry)) (now (draws .entry))) (parametersOf (g .group)) order)) (now (out .entry)) ⌝ }
+{
+    let group = g.group;
+    header::write_header(out, size, group, label);
+    write_rounds(
+        &mut out[54..],
+        label,
+        g,
+        size,
+        rankings,
+        draws,
+        order,
+        count,
+    );
+}

@@ -1,0 +1,54 @@
+// The sheet of a round.
+use ballots::sums;
+use count::Sheet;
+ghost use mathlib.Core.Path.{_≡_};
+ghost use mathlib.Core.List.{_++_};
+ghost use Prim.Native.Nat.{ℕ, _+_, _-_, _*_, _%_, _^_, _≤_, _<_};
+ghost use lib.ListN.{length, getD};
+ghost use Rattle.numbers.specs.Below.{sumBelow};
+ghost use Rattle.rules.specs.Bytes.{bytes2, bytes4};
+ghost use Rattle.output.specs.Written.{written};
+ghost use Rattle.boards.specs.Parts.{sheetIn};
+
+// A column of it: its count, and the sum of its first pairs' secrets.
+fn write_tally(
+    out: &mut [u8],
+    q: u32,
+    votes: u32,
+    draws: &[u32],
+    from: usize,
+    stride: usize,
+    k: usize,
+)
+    requires { ⌜ (0 < q) × (0 < k) × (k ≤ 1000) × (stride ≤ 10000) × (from < 2 ^ 40) × (from + stride * (k - 1) < length (now draws)) × (6 ≤ length (now out)) ⌝ }
+    ensures { λ _. ⌜ now (out .exit) ≡ written (bytes2 votes ++ bytes4 (sumBelow k (λ i. getD (now (draws .entry)) (from + stride * i) 0) % q)) (now (out .entry)) ⌝ }
+{
+    let s = sums::sum_of(q, draws, from, stride, k, k);
+    output::put_half(out, votes);
+    output::put_word(&mut out[2..], s.0);
+}
+
+// That of round m, from 0, whose draws start at a place and whose records need so many each.
+pub fn write_sheet(
+    out: &mut [u8],
+    q: u32,
+    n: usize,
+    m: u8,
+    gone: u8,
+    sheet: Sheet,
+    draws: &[u32],
+    from: usize,
+    stride: usize,
+    k: usize,
+)
+    requires { ⌜ (0 < q) × (0 < k) × (k ≤ 1000) × (stride ≤ 10000) × (n ≤ 8) × (from < 2 ^ 30) × (from + n + stride * (k - 1) ≤ length (now draws)) × (4 + 6 * n ≤ length (now out)) × (m < 8) ⌝ }
+    ensures { λ _. ⌜ now (out .exit) ≡ written (sheetIn n q (now (draws .entry)) from stride k m gone (sheet .counts)) (now (out .entry)) ⌝ }
+{
+    let counts = sheet.counts;
+    output::put_two(out, 82, 84);
+    output::put_two(&mut out[2..], m + 1, gone);
+    for i in 0..n {
+        let at = 4 + 6 * i;
+        write_tally(&mut out[at..], q, counts[i], draws, from + i, stride, k);
+    }
+}

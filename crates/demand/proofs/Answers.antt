@@ -1,0 +1,50 @@
+-- From the contracts of `check` and `write` and the whole-board theorem to the demand.
+use Prim.Native.Nat.{ℕ, _-_, _≤_}
+use mathlib.Core.Path.{_≡_, sym, ap, subst, _∙_}
+use mathlib.Core.List.{List, _++_}
+use native.Mathlib.Omega.{arith}
+use lib.ListN.{length, take, drop, length-append}
+use lib.Seq.{take-at, drop-at}
+use Rattle.sha256.specs.Message.{sha256}
+use Rattle.rules.specs.Check.{checkBoard}
+use Rattle.rules.specs.Answers.{verdictOf}
+use Rattle.rules.specs.declared.Checked.{Checked}
+use Rattle.jobs.specs.Job.{Job, plainResult, boardLength}
+use Rattle.jobs.specs.Board.{board}
+use Rattle.jobs.specs.Write.{boardWritten, jobRefused, writeOutcome, writeOutput}
+use Rattle.jobs.specs.Replies.{replyOf, outcomeOf}
+use Rattle.jobs.specs.declared.Reply.{Reply}
+use Rattle.jobs.specs.declared.Reply.the-variants as W
+use Rattle.jobs.specs.declared.Written.{Written}
+use Rattle.whole.specs.ThirdDemand.{Valid, IsWritten}
+use Rattle.whole.proofs.ThirdDemand.{third-demand}
+use Rattle.whole.proofs.Complete.FineJob.{no-refusal}
+use Rattle.demand.specs.Demand.{AcceptedIsPlain, ValidIsWritten, WrittenIsPlain}
+
+pub accepted-is-plain : (s : List ℕ) (r : Checked) → verdictOf r ≡ checkBoard sha256 s → AcceptedIsPlain s r
+accepted-is-plain s r e rounds winner rankings a o =
+    third-demand sha256 .accepted-boards s rounds (take (rounds - 1) (r .order)) winner rankings (sym e ∙ rw a) o
+
+-- a reply whose outcome is a board is one
+reply-is : (w : Reply) (order : List ℕ) (l rounds : ℕ) (outs : List ℕ) (winner : ℕ) → replyOf w order ≡ boardWritten l rounds outs winner →
+    (w ≡ W.Board l rounds winner) × (take (rounds - 1) order ≡ outs)
+reply-is (W.Board l' rounds' winner') order l rounds outs winner e = (cc, cc)
+reply-is (W.Refused refusal which) order l rounds outs winner e = absurd (let z : _≡_ {A = ℕ} 0 1 = cc in omega arith)
+
+pub valid-is-written : (job : Job) (before after : List ℕ) (r : Written) →
+    outcomeOf r ≡ writeOutcome sha256 job (length before) → after ≡ writeOutput sha256 job before → ValidIsWritten job before after r
+unfolding writeOutput
+valid-is-written job before after r e o v fits =
+    let w = third-demand sha256 .written-boards job v in
+    let plain = plainResult job in
+    let long : length (board sha256 job) ≡ boardLength job = w .measured in
+    let told = reply-is (r .reply) (r .order) (boardLength job) (plain .rounds) (plain .order) (plain .winner)
+    (e ∙ w .replies (length before) (omega arith) ∙ rw long) in
+    let holds : after ≡ board sha256 job ++ drop (boardLength job) before = o ∙ rw (no-refusal sha256 job (length before) v fits) in
+    let front : take (boardLength job) after ≡ board sha256 job = rw holds (take-at (board sha256 job) (drop (boardLength job) before) (boardLength job) long) in
+    record {
+      replies = told .0;
+      orders = told .1;
+      front = subst (λ s. IsWritten sha256 job s plain) (sym front) w;
+      rest = rw holds (drop-at (board sha256 job) (drop (boardLength job) before) (boardLength job) long);
+    }

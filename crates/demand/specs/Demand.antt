@@ -1,0 +1,37 @@
+-- What the third demand says of a call of `check`, and of a call of `write`. The demand's words are in quotation marks.
+use Prim.Native.Nat.{ℕ, _-_, _≤_}
+use mathlib.Core.Path.{_≡_}
+use mathlib.Core.List.{List}
+use lib.ListN.{length, take, drop}
+use Rattle.sha256.specs.Message.{sha256}
+use Rattle.rules.specs.Count.{table, plainCount}
+use Rattle.rules.specs.Check.{header}
+use Rattle.rules.specs.Openings.{Opens}
+use Rattle.rules.specs.declared.Checked.{Checked}
+use Rattle.rules.specs.declared.Answer.the-variants as A
+use Rattle.jobs.specs.Job.{Job, plainResult, boardLength}
+use Rattle.jobs.specs.declared.Written.{Written}
+use Rattle.jobs.specs.declared.Reply.the-variants as W
+use Rattle.whole.specs.ThirdDemand.{IsPlain, Valid, IsWritten}
+
+-- "an accepted board whose matrices open to rankings and struck rows has the plain instant-runoff count's rounds, counts, order and winner":
+-- of the answer r to the board s
+abbrev pub AcceptedIsPlain : (s : List ℕ) → Checked → Type 0
+AcceptedIsPlain s r =
+    (rounds winner : ℕ) (rankings : ℕ → List ℕ) →
+    r .answer ≡ A.Accepted rounds winner →
+    Opens s rankings rounds →
+    IsPlain s rounds (take (rounds - 1) (r .order)) winner (plainCount (header s .n) (table (header s .K) rankings))
+
+-- "every board written by the rules from 1 to 1,000 rankings of 2 to 8 processes, in any valid group with any valid draws, is accepted with that count":
+-- of the reply r to a job whose output held `before`, and then held `after`
+pub record WrittenIsPlain (job : Job) (before after : List ℕ) (r : Written) : Type 0 where
+  -- the reply has the board's length and the plain count's rounds, order and winner
+  pub replies : r .reply ≡ W.Board (boardLength job) (plainResult job .rounds) (plainResult job .winner)
+  pub orders : take (plainResult job .rounds - 1) (r .order) ≡ plainResult job .order
+  -- the front of the output is a board that is accepted with them, and opens to the job's rankings
+  pub front : IsWritten sha256 job (take (boardLength job) after) (plainResult job)
+  pub rest : drop (boardLength job) after ≡ drop (boardLength job) before
+
+abbrev pub ValidIsWritten : (job : Job) (before after : List ℕ) → Written → Type 0
+ValidIsWritten job before after r = Valid sha256 job → boardLength job ≤ length before → WrittenIsPlain job before after r

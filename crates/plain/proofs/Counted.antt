@@ -1,0 +1,97 @@
+-- The plain count, round by round, as the code's standing count goes. Assumes nothing.
+use Prim.Native.Nat.{ℕ, zero, suc, _+_, _*_, _-_, _≤_, _<_}
+use mathlib.Core.Path.{_≡_, refl, sym, ap, _∙_}
+use mathlib.Core.Bool.{Bool, true, false, cond, _||_, true≢false}
+use mathlib.Core.List.{List, [], _∷_, _++_, map}
+use mathlib.Core.Logic.{⊎-elim}
+use native.Mathlib.Nat.{mul-le-mul-right, eq-or-lt-of-le}
+use native.Mathlib.Numerals.{add-one}
+use native.Mathlib.Omega.{arith}
+use borrow.Author.Tests.{eq-eqb}
+use lib.Dec.{eqb}
+use lib.ListN.{length, getD, set, take, replicate, length-append, length-replicate, take-append-drop}
+use lib.Seq.{length-take-le, take-suc, take-at, drop-at}
+use Rattle.rules.specs.Bytes.{part}
+use Rattle.rules.specs.Records.{roundAt, recordLength, sheetLength}
+use Rattle.rules.specs.Count.{Standing, Result, start, next, ended, closes, majority, countsOf, countFrom, plainCount, table}
+use Rattle.jobs.specs.Job.{roundDraws, recordDraws}
+use Rattle.count.specs.declared.Count.{Count}
+use Rattle.count.specs.declared.Gone.{Gone}
+use Rattle.count.specs.State.{standingOf, listOf, Listed}
+use Rattle.rules.specs.Answers.{padded}
+use Rattle.plain.proofs.Lists.{pad-more}
+
+length-rankings : (k : ℕ) (f : ℕ → List ℕ) → length (table k f) ≡ k
+unfolding table
+length-rankings zero f = refl
+length-rankings (suc k) f = simp length-append (omega (arith, length-rankings k f))
+
+or-first : (a b : Bool) → a ≡ true → (a || b) ≡ true
+or-first true b e = refl
+or-first false b e = absurd (true≢false (sym e))
+
+pub not-last : (n : ℕ) (st : Standing) (cs : List ℕ) (K m : ℕ) → closes n st cs K ≡ false → length (st .sheets) ≡ m → m + 1 ≡ n - 1 → ⊥
+unfolding closes
+not-last n st cs K m h e t =
+    true≢false (sym (or-first (eqb (length (st .sheets) + 1) (n - 1)) (majority n st cs K) (eq-eqb (length (st .sheets) + 1) (n - 1) (rw e t))) ∙ h)
+
+module _ (n k : ℕ) (f : ℕ → List ℕ) (c : Count) (m : ℕ) (cs : List ℕ) (low : m < n)
+    (w : plainCount n (table k f) ≡ countFrom n (table k f) (n - m) (standingOf n c))
+    (e : cs ≡ countsOf n (table k f) (listOf (c .gone))) where
+  fuel : n - m ≡ suc (n - (m + 1))
+  fuel = omega arith
+
+  pub count-goes : closes n (standingOf n c) cs k ≡ false →
+      plainCount n (table k f) ≡ countFrom n (table k f) (n - (m + 1)) (next n (standingOf n c) cs)
+  unfolding countFrom standingOf
+  count-goes h = w ∙ rw (fuel, ← e, length-rankings k f, h)
+
+  pub count-ends : closes n (standingOf n c) cs k ≡ true → plainCount n (table k f) ≡ ended n (standingOf n c) cs
+  unfolding countFrom standingOf
+  count-ends h = w ∙ rw (fuel, ← e, length-rankings k f, h)
+
+pub draws-more : (n K m d r : ℕ) → d ≡ roundDraws n K m → r ≡ recordDraws n m → d + K * r ≡ roundDraws n K (m + 1)
+unfolding roundDraws
+draws-more n K m d r e h = rw (add-one, e, h)
+
+pub length-more : (n K m d r : ℕ) → d ≡ roundAt n K m → r ≡ recordLength n m → d + (K * r + 4 + 6 * n) ≡ roundAt n K (m + 1)
+unfolding roundAt sheetLength
+length-more n K m d r e h = rw (add-one, e, h) (omega arith)
+
+-- those gone out, with zeros up to 8
+pub padded-order : (g : Gone) → Listed g → g .order ≡ padded (listOf g)
+unfolding padded
+padded-order g l =
+    let e : length (listOf g) ≡ g .outs = length-take-le (g .outs) (g .order) (omega (arith, l .few, l .order-long)) in
+    sym (take-append-drop (g .outs) (g .order)) ∙ rw (l .zeros, e)
+
+-- the first of an order, one by one
+pub first-more : (order : List ℕ) (i : ℕ) → i < 8 → length order ≡ 8 → set (padded (take i order)) i (getD order i 0) ≡ padded (take (i + 1) order)
+first-more order i h e =
+    pad-more (take i order) i (getD order i 0) (length-take-le i order (omega arith)) h ∙ ap padded (sym (rw add-one (take-suc order i 0 (omega arith))))
+
+module _ (order first : List ℕ) (outs : ℕ) (few : outs ≤ 8) (long : length order ≡ 8) (e : first ≡ padded (take outs order)) where
+  abbrev cut : Gone
+  cut = record { outs = outs; order = first }
+
+  count : length (take outs order) ≡ outs
+  count = length-take-le outs order (omega arith)
+
+  pub first-listed : Listed cut
+  unfolding padded
+  first-listed =
+      record {
+        few = few;
+        order-long = rw e (simp (length-append, length-replicate) (omega (arith, count)));
+        zeros = rw e (drop-at (take outs order) (replicate (8 - length (take outs order)) 0) outs count ∙ rw count);
+      }
+
+  pub first-list : listOf cut ≡ take outs order
+  unfolding padded
+  first-list = rw e (take-at (take outs order) (replicate (8 - length (take outs order)) 0) outs count)
+
+pub far : (m n : ℕ) → m + 2 ≤ n → (m + 1 ≡ n - 1 → ⊥) → m + 1 + 2 ≤ n
+far m n h t = ⊎-elim (λ (e : m + 2 ≡ n). absurd (t (omega arith))) (λ (l : m + 2 < n). omega arith) (eq-or-lt-of-le h)
+
+pub at-most : (k r : ℕ) → k ≤ 1000 → k * r ≤ 1000 * r
+at-most k r h = mul-le-mul-right r h

@@ -1,0 +1,138 @@
+-- The counts of a round, ranking by ranking. Assumes nothing.
+use Prim.Native.Nat.{ℕ, zero, suc, _+_, _*_, _-_, _%_, _≤_, _<_}
+use mathlib.Core.Path.{_≡_, refl, sym, ap, ap₂, _∙_}
+use mathlib.Core.Bool.{Bool, true, false, cond, not, _&&_}
+use mathlib.Core.List.{List, [], _∷_, _++_}
+use mathlib.Core.Logic.{⊎-elim}
+use native.Mathlib.Nat.{add-zero, zero-add, suc-add, add-assoc, eq-or-lt-of-le, sub-add-cancel}
+use native.Mathlib.Numerals.{add-one}
+use native.Mathlib.Omega.{arith}
+use borrow.Author.Tests.{eq-eqb, ne-eqb, eqb-true, eqb-false, lt-leb, le-leb}
+use lib.Dec.{eqb}
+use lib.ListN.{length, getD, set, take, drop, length-append, length-take, length-drop, length-set, drop-of-length-le, List·getD-append}
+use lib.Seq.{drop-cons, getD-take, getD-drop, getD-set-same, getD-set-other, ext-getD, getD-at, take-suc}
+use Rattle.numbers.proofs.Tests.{by-cases}
+use Rattle.rules.specs.Bytes.{part}
+use Rattle.numbers.specs.Below.{allBelow}
+use Rattle.rules.specs.Count.{member, isRanking, stillIn, firstIn, votesFor, countsOf, table}
+use Rattle.jobs.specs.Job.{Job, rankingOf}
+use Rattle.jobs.specs.Write.{firstBad}
+
+module _ (s : List ℕ) (at n i : ℕ) (fits : at + n ≤ length s) where
+  cut : i < n → drop i (part s at n) ≡ getD s (at + i) 0 ∷ drop (suc i) (part s at n)
+  cut h =
+      drop-cons (part s at n) i 0 (simp (length-take, length-drop) (omega arith))
+      ∙ ap (λ (c : ℕ). c ∷ drop (suc i) (part s at n)) (getD-take n (drop at s) i 0 h ∙ getD-drop at s i 0)
+
+  end : n ≤ i → drop i (part s at n) ≡ []
+  end h = drop-of-length-le (part s at n) {i = i} (simp (length-take, length-drop) (omega arith))
+
+  -- the first process still in
+  module _ (gone : List ℕ) (w : firstIn n gone (part s at n) ≡ firstIn n gone (drop i (part s at n))) where
+    pub first-found : i < n → stillIn n gone (getD s (at + i) 0) ≡ true → getD s (at + i) 0 ≡ firstIn n gone (part s at n)
+    unfolding firstIn
+    first-found h e = sym (w ∙ rw (cut h, e))
+
+    pub first-passed : i < n → stillIn n gone (getD s (at + i) 0) ≡ false → firstIn n gone (part s at n) ≡ firstIn n gone (drop (i + 1) (part s at n))
+    unfolding firstIn
+    first-passed h e = w ∙ rw (cut h, e, add-one)
+
+    pub first-none : n ≤ i → 0 ≡ firstIn n gone (part s at n)
+    unfolding firstIn
+    first-none h = sym (w ∙ rw (end h))
+
+-- the tests of a process still in, one after the other
+module _ (n : ℕ) (gone : List ℕ) (c : ℕ) where
+  pub in-below : c < 1 → false ≡ stillIn n gone c
+  unfolding stillIn
+  in-below h = rw (lt-leb 1 c h)
+
+  pub in-above : 1 ≤ c → n < c → false ≡ stillIn n gone c
+  unfolding stillIn
+  in-above h k = rw (le-leb 1 c h, lt-leb c n k)
+
+  pub in-left : 1 ≤ c → c ≤ n → not (member c gone) ≡ stillIn n gone c
+  unfolding stillIn
+  in-left h k = rw (le-leb 1 c h, le-leb c n k)
+
+-- a ranking is as long as there are processes
+module _ (s : List ℕ) (at n : ℕ) (fits : at + n ≤ length s) where
+  long : eqb (length (part s at n)) n ≡ true
+  long = eq-eqb (length (part s at n)) n (simp (length-take, length-drop) (omega arith))
+
+  pub ranking-is : allBelow n (λ i. member (suc i) (part s at n)) ≡ isRanking n (part s at n)
+  unfolding isRanking
+  ranking-is = rw long
+
+-- the first bad ranking
+module _ (job : Job) where
+  pub bad-none : firstBad job 0 ≡ 0
+  unfolding firstBad
+  bad-none = refl
+
+  pub bad-passed : (k : ℕ) → firstBad job k ≡ 0 → isRanking (job .n) (rankingOf job k) ≡ true → firstBad job (k + 1) ≡ 0
+  unfolding firstBad
+  bad-passed k e h = rw (add-one, e, h)
+
+  pub bad-found : (k : ℕ) → firstBad job k ≡ 0 → isRanking (job .n) (rankingOf job k) ≡ false → firstBad job (k + 1) ≡ k + 1
+  unfolding firstBad
+  bad-found k e h = rw (add-one, e, h)
+
+  pub bad-stays : (k d v : ℕ) → firstBad job k ≡ suc v → firstBad job (d + k) ≡ suc v
+  unfolding firstBad
+  bad-stays k zero v e = rw zero-add e
+  bad-stays k (suc d) v e = rw (suc-add, bad-stays k d v e, ne-eqb (suc v) 0 (λ z. omega arith))
+
+-- one vote more
+pub vote-one : (counts : List ℕ) (c : ℕ) → length counts ≡ 8 → 0 < c → c ≤ 8 → (i : ℕ) → i < 8 →
+    getD (set counts (c - 1) (getD counts (c - 1) 0 + 1)) i 0 ≡ getD counts i 0 + cond (eqb c (suc i)) 1 0
+vote-one counts c e h k i l =
+    by-cases (eqb c (suc i))
+    (λ t.
+    let p : c ≡ suc i = eqb-true c (suc i) t in
+    let r : c - 1 ≡ i = omega arith in
+    rw (t, r) (getD-set-same counts i (getD counts i 0 + 1) 0 (omega (arith, e))))
+    (λ t. rw t (getD-set-other counts (c - 1) i _ 0 (λ z. eqb-false c (suc i) t (omega arith)) ∙ sym (add-zero (getD counts i 0))))
+
+pub vote-none : (x c : ℕ) (i : ℕ) → (c ≡ suc i → ⊥) → x ≡ x + cond (eqb c (suc i)) 1 0
+vote-none x c i n = rw (ne-eqb c (suc i) n) (sym (add-zero x))
+
+-- the votes of one ranking more
+votes-snoc : (n : ℕ) (gone : List ℕ) (rs : List (List ℕ)) (r : List ℕ) (c : ℕ) → votesFor n gone (rs ++ (r ∷ [])) c ≡ votesFor n gone rs c + cond (eqb (firstIn n gone r) c) 1 0
+unfolding votesFor
+votes-snoc n gone [] r c = omega arith
+votes-snoc n gone (x ∷ rs) r c = rw (votes-snoc n gone rs r c) (sym (add-assoc _ _ _))
+
+pub votes-more : (n : ℕ) (gone : List ℕ) (f : ℕ → List ℕ) (b c : ℕ) → votesFor n gone (table (b + 1) f) c ≡ votesFor n gone (table b f) c + cond (eqb (firstIn n gone (f b)) c) 1 0
+unfolding table
+votes-more n gone f b c = rw add-one (votes-snoc n gone (table b f) (f b) c)
+
+pub votes-none : (n : ℕ) (gone : List ℕ) (f : ℕ → List ℕ) (c : ℕ) → votesFor n gone (table 0 f) c ≡ 0
+unfolding table votesFor
+votes-none n gone f c = refl
+
+length-table : (n : ℕ) (f : ℕ → ℕ) → length (table n f) ≡ n
+unfolding table
+length-table zero f = refl
+length-table (suc n) f = simp length-append (omega (arith, length-table n f))
+
+table-at : (n i : ℕ) (f : ℕ → ℕ) → i < n → getD (table n f) i 0 ≡ f i
+unfolding table
+table-at zero i f h = absurd (omega arith)
+table-at (suc n) i f h =
+    ⊎-elim (λ (e : i ≡ n). rw e (getD-at (table n f) (f n) [] 0 n (length-table n f)))
+    (λ (l : i < n). List·getD-append (table n f) (f n ∷ []) 0 i (omega (arith, length-table n f)) ∙ table-at n i f l)
+    (eq-or-lt-of-le {n = i} {m = n} (omega arith))
+
+pub counts-are : (counts : List ℕ) (n : ℕ) (gone : List ℕ) (rs : List (List ℕ)) → length counts ≡ 8 → n ≤ 8 →
+    ((i : ℕ) → i < 8 → getD counts i 0 ≡ votesFor n gone rs (suc i)) → take n counts ≡ countsOf n rs gone
+unfolding countsOf
+counts-are counts n gone rs e h w =
+    let l : length (take n counts) ≡ n = simp length-take (omega arith) in
+    ext-getD 0 (take n counts) (table n (λ i. votesFor n gone rs (suc i))) (l ∙ sym (length-table n _)) (λ i k.
+    let b : i < n = omega arith in
+    getD-take n counts i 0 b ∙ w i (omega arith) ∙ sym (table-at n i (λ i. votesFor n gone rs (suc i)) b))
+
+pub one : (t : Bool) → cond t 1 0 ≤ 1
+one true = omega arith
+one false = omega arith

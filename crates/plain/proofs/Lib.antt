@@ -1,0 +1,4 @@
+pub mod Lists
+pub mod Firsts
+pub mod Sizes
+pub mod Counted

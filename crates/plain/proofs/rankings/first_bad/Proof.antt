@@ -1,0 +1,62 @@
+use Prim.Native.Nat.{ℕ, suc, _+_, _-_, _*_, _≤_, _<_}
+use mathlib.Core.Path.{_≡_, refl, sym, ap, _∙_}
+use native.Mathlib.Nat.{mul-le-mul-right}
+use native.Mathlib.Numerals.{add-one}
+use native.Mathlib.Omega.{arith}
+use borrow.Author.Tests.{not-true, not-false}
+use denote.Ref.{now}
+use Rattle.rules.specs.Count.{isRanking}
+use Rattle.jobs.specs.Job.{Job, rankingOf}
+use Rattle.jobs.specs.Write.{firstBad}
+use Rattle.plain.proofs.Firsts.{bad-none, bad-passed, bad-found, bad-stays}
+use borrow.Author.Needs.{needs}
+use Rattle.plain.proofs.rankings.first_bad.Statement.{statement}
+use Rattle.plain.proofs.rankings.first_bad.Tie as tie
+
+abbrev Inv-loop : tie.InvT-loop
+Inv-loop rankings n k b₀ b = (b ≤ k) × ((job : Job) → job .n ≡ n → job .rankings ≡ rankings → firstBad job b ≡ 0)
+
+abbrev μ-loop : tie.MeasureT-loop
+μ-loop rankings n k b₀ b = k - b
+
+up : (b k n : ℕ) → b < k → (b + 1) * n ≤ k * n
+up b k n h = mul-le-mul-right n (omega arith)
+
+loop-holds : tie.Need-loop-holds Inv-loop μ-loop
+loop-holds c = (omega arith, λ job en er. bad-none job)
+
+returns : tie.Need-returns Inv-loop μ-loop
+returns c =
+    let l = c .before .before .before .loop in
+    let f = c .before .before .before .before .before .args in
+    λ job en er.
+    let bad = bad-found job (l .b) (l .inv .1 job en er) (rw (en, er) (sym (c .before .is-ranking .ensures) ∙ not-true _ (c .if1 .taken))) in
+    let d : f .k - (l .b + 1) + (l .b + 1) ≡ f .k = omega arith in
+    add-one (l .b) ∙ sym (rw d at (bad-stays job (l .b + 1) (f .k - (l .b + 1)) (l .b) (bad ∙ add-one (l .b))))
+
+loop-again : tie.Need-loop-again Inv-loop μ-loop
+loop-again c =
+    let l = c .before .before .before .loop in
+    (omega arith, λ job en er. bad-passed job (l .b) (l .inv .1 job en er) (rw (en, er) (sym (c .before .is-ranking .ensures) ∙ not-false _ (c .if1 .left))))
+
+returns-2 : tie.Need-returns-2 Inv-loop μ-loop
+returns-2 c =
+    let l = c .before .loop in
+    let e : l .b ≡ c .before .before .before .args .k = omega arith in
+    λ job en er. sym (l .inv .1 job en er) ∙ rw e
+
+pub first-bad-spec : {M : Type 1} → statement M
+first-bad-spec =
+    tie.close
+    (tie.spec
+    Inv-loop
+    μ-loop
+    loop-holds
+    (λ c. let f = c .before .before .before .args in omega (arith, up (c .before .loop .b) (f .k) (f .n) (omega arith), c .before .before .before .pre))
+    (λ c κs. let f = c .before .before .before .args in omega (arith, up (c .before .loop .b) (f .k) (f .n) (omega arith), c .before .before .before .pre))
+    (λ c. search needs)
+    returns
+    (λ c. search needs)
+    (λ c. search needs)
+    loop-again
+    returns-2)

@@ -1,0 +1,63 @@
+use Prim.Native.Nat.{suc, _-_, _≤_}
+use mathlib.Core.Path.{_≡_, sym, ap, _∙_}
+use mathlib.Core.Bool.{true}
+use native.Mathlib.Numerals.{add-one}
+use native.Mathlib.Omega.{arith}
+use borrow.Author.Tests.{not-true, not-false}
+use denote.Ref.{now}
+use Rattle.numbers.specs.Below.{allBelow}
+use Rattle.numbers.proofs.Tests.{all-none, all-more, all-fails, all-end}
+use Rattle.rules.specs.Bytes.{part}
+use Rattle.rules.specs.Count.{member}
+use Rattle.plain.proofs.Firsts.{ranking-is}
+use borrow.Author.Needs.{needs}
+use Rattle.plain.proofs.rankings.is_ranking.Statement.{statement}
+use Rattle.plain.proofs.rankings.is_ranking.Tie as tie
+
+abbrev Inv-loop : tie.InvT-loop
+Inv-loop rankings at n i₀ i = (i ≤ n) × (allBelow i (λ j. member (suc j) (part rankings at n)) ≡ true)
+
+abbrev μ-loop : tie.MeasureT-loop
+μ-loop rankings at n i₀ i = n - i
+
+loop-holds : tie.Need-loop-holds Inv-loop μ-loop
+loop-holds c = (omega arith, all-none _)
+
+returns : tie.Need-returns Inv-loop μ-loop
+returns c =
+    let l = c .before .before .before .loop in
+    let s = c .before .before .before .before .before in
+    let f = s .args in
+    let r = part (now (f .rankings)) (f .at) (f .n) in
+    sym (all-fails (f .n) (l .i) (λ j. member (suc j) r) (omega arith) (rw (← add-one) (sym (c .before .lists .ensures) ∙ not-true _ (c .if1 .taken))))
+    ∙ ranking-is (now (f .rankings)) (f .at) (f .n) (s .pre)
+
+loop-again : tie.Need-loop-again Inv-loop μ-loop
+loop-again c =
+    let l = c .before .before .before .loop in
+    let f = c .before .before .before .before .before .args in
+    let r = part (now (f .rankings)) (f .at) (f .n) in
+    (omega arith, all-more (l .i) (λ j. member (suc j) r) (l .inv .1) (rw (← add-one) (sym (c .before .lists .ensures) ∙ not-false _ (c .if1 .left))))
+
+returns-2 : tie.Need-returns-2 Inv-loop μ-loop
+returns-2 c =
+    let l = c .before .loop in
+    let s = c .before .before .before in
+    let f = s .args in
+    sym (all-end (f .n) (l .i) (λ j. member (suc j) (part (now (f .rankings)) (f .at) (f .n))) (l .inv .0) (omega arith) (l .inv .1))
+    ∙ ranking-is (now (f .rankings)) (f .at) (f .n) (s .pre)
+
+pub is-ranking-spec : {M : Type 1} → statement M
+is-ranking-spec =
+    tie.close
+    (tie.spec
+    Inv-loop
+    μ-loop
+    loop-holds
+    (λ c. search needs)
+    (λ c κs. search needs)
+    returns
+    (λ c. search needs)
+    (λ c. search needs)
+    loop-again
+    returns-2)

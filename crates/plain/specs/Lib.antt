@@ -1,0 +1,2 @@
+-- What the code's plain count comes to.
+pub mod Measures

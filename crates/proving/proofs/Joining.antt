@@ -1,0 +1,166 @@
+-- The proof of the rules, from the branches that are held and the known branch's answers. Assumes nothing.
+use Prim.Native.Nat.{ℕ, zero, suc, _+_, _*_, _-_, _%_, _≤_, _<_}
+use mathlib.Core.Path.{_≡_, refl, sym, ap, ap₂, subst, _∙_}
+use mathlib.Core.Bool.{Bool, true, false, cond}
+use mathlib.Core.List.{List, [], _∷_, _++_, append-assoc, append-nil}
+use native.Mathlib.Nat.{add-zero, add-suc}
+use native.Mathlib.Numerals.{add-one}
+use native.Mathlib.Omega.{arith}
+use borrow.Author.Tests.{lt-ltb, le-ltb, eq-eqb, ne-eqb, eqb-true, eqb-false}
+use borrow.Rule.Slice.PartMut.{midOf, putMid}
+use lib.Dec.{eqb, ltb}
+use lib.ListN.{length, getD, take, drop, length-append, length-drop, length-take}
+use lib.Seq.{drop-at, take-append-le, drop-append-le, take-at, length-take-le}
+use Rattle.numbers.specs.Below.{sumBelow, blocks}
+use Rattle.numbers.proofs.Blocks.{blocks-same, length-blocks}
+use Rattle.numbers.proofs.Tests.{by-cases}
+use Rattle.sha256.specs.declared.Hasher.{Hasher}
+use Rattle.sha256.specs.Message.{sha256}
+use Rattle.rules.specs.Bytes.{bytes4, long, part}
+use Rattle.group.specs.Elements.{Parameters}
+use Rattle.rules.specs.Proofs.{Statement}
+use Rattle.jobs.specs.Prover.{Prover, committed, commitment, challengeOf, responseOf, wholeChallenge, trueChallenge, proofBytes}
+use Rattle.output.specs.Written.{written}
+use Rattle.output.proofs.Laws.{more, patch, rest-from, blocks-more}
+use Rattle.proving.specs.declared.Plan.{Plan}
+use Rattle.proving.specs.Plans.{Branched, branchOf, heldE, heldTs, heldRs, againstOf, drawsOf, truePair, falsePair, trueTs, trueRs, falseTs, falseRs, answers, proverOf, proofOf}
+use Rattle.proving.proofs.Branches.{length-branch, length-true, length-false}
+
+-- a run of blocks around its k-th
+blocks-around : (f : ℕ → List ℕ) (k d : ℕ) → blocks (k + 1 + d) f ≡ blocks k f ++ (f k ++ blocks d (λ j. f (k + 1 + j)))
+unfolding blocks
+blocks-around f k zero = rw (add-zero, add-one, append-nil)
+blocks-around f k (suc d) = rw (add-suc, blocks-around f k d, append-assoc, append-assoc)
+
+branch-same : (e e' S : ℕ) (t t' : ℕ → List ℕ) (r r' : ℕ → ℕ) → e ≡ e' → ((i : ℕ) → i < S → t i ≡ t' i) → ((i : ℕ) → i < S → r i ≡ r' i) →
+    branchOf e S t r ≡ branchOf e' S t' r'
+unfolding branchOf
+branch-same e e' S t t' r r' a b c =
+    ap₂ _++_ (ap bytes4 a) (blocks-same S (λ i. t i ++ bytes4 (r i)) (λ i. t' i ++ bytes4 (r' i)) (λ i h. ap₂ _++_ (b i h) (ap bytes4 (c i h))))
+
+-- the commitments of a branch's i-th statement, wherever more stands after the branch
+branch-part : (e d : ℕ) (t : ℕ → List ℕ) (r : ℕ → ℕ) (y : List ℕ) → ((i : ℕ) → length (t i) ≡ 8) → (i : ℕ) →
+    part (branchOf e (i + 1 + d) t r ++ y) (4 + 12 * i) 8 ≡ t i
+unfolding branchOf
+branch-part e d t r y wide i =
+    let f : ℕ → List ℕ = λ i. t i ++ bytes4 (r i) in
+    let z : List ℕ = bytes4 (r i) ++ (blocks d (λ j. f (i + 1 + j)) ++ y) in
+    let s : branchOf e (i + 1 + d) t r ++ y ≡ branchOf e i t r ++ (t i ++ z) = rw (blocks-around f i d) (simp append-assoc) in
+    rw (s, drop-at (branchOf e i t r) (t i ++ z) (4 + 12 * i) (length-branch e t r i (λ j h. wide j))) (take-at (t i) z 8 (wide i))
+
+module _ (label : List ℕ) (g : Parameters) (claim : ℕ → ℕ → Statement) (plan : Plan) (witness draws : List ℕ) where
+  abbrev pr : Prover
+  pr = proverOf claim plan witness draws
+
+  abbrev ts : (l i : ℕ) → List ℕ
+  ts l i = committed g pr l i
+
+  abbrev es : ℕ → ℕ
+  es l = challengeOf g pr sha256 label l
+
+  abbrev rs : (l i : ℕ) → ℕ
+  rs l i = responseOf g pr sha256 label l i
+
+  abbrev c : ℕ
+  c = trueChallenge g pr sha256 label
+
+  pub held : ℕ → List ℕ
+  held l = branchOf (heldE plan draws l) (plan .statements) (heldTs g claim plan draws l) (heldRs plan draws l)
+
+  final : ℕ → List ℕ
+  final l = branchOf (es l) (plan .statements) (ts l) (rs l)
+
+  proof-is : proofOf label g claim plan witness draws ≡ blocks (plan .branches) final
+  unfolding proofBytes final branchOf
+  proof-is = refl
+
+  same-ts : (l i : ℕ) → ts l i ≡ heldTs g claim plan draws l i
+  unfolding commitment heldTs truePair falsePair
+  same-ts l i =
+      by-cases (eqb l (plan .known))
+      (λ e. let k : l ≡ plan .known = eqb-true l (plan .known) e in rw (e, k))
+      (λ e. rw e)
+
+  length-ts : (l i : ℕ) → length (heldTs g claim plan draws l i) ≡ 8
+  unfolding heldTs
+  length-ts l i = by-cases (eqb l (plan .known)) (λ e. rw e (length-true _ _)) (λ e. rw e (length-false _ _ _ _))
+
+  pub length-held : (l : ℕ) → length (held l) ≡ 4 + 12 * plan .statements
+  unfolding held
+  length-held l = length-branch _ _ _ (plan .statements) (λ i h. length-ts l i)
+
+  length-final : (l : ℕ) → length (final l) ≡ 4 + 12 * plan .statements
+  unfolding final
+  length-final l = length-branch _ _ _ (plan .statements) (λ i h. ap length (same-ts l i) ∙ length-ts l i)
+
+  held-part : (l i : ℕ) (y : List ℕ) → i < plan .statements → part (held l ++ y) (4 + 12 * i) 8 ≡ heldTs g claim plan draws l i
+  unfolding held
+  held-part l i y h =
+      let n : i + 1 + (plan .statements - i - 1) ≡ plan .statements = omega arith in
+      rw n at (branch-part (heldE plan draws l) (plan .statements - i - 1) (heldTs g claim plan draws l) (heldRs plan draws l) y (length-ts l) i)
+
+  -- a branch other than the known one is as it was held
+  same-branch : (l : ℕ) → (l ≡ plan .known → ⊥) → held l ≡ final l
+  unfolding held final heldE heldRs
+  same-branch l n =
+      branch-same _ _ (plan .statements) _ _ _ _ (rw (ne-eqb l (plan .known) n)) (λ i h. sym (same-ts l i)) (λ i h. rw (ne-eqb l (plan .known) n))
+
+  -- one more branch is held
+  pub held-more : (l a : ℕ) (o out x : List ℕ) (h k : Hasher) → a ≡ l * (4 + 12 * plan .statements) → out ≡ written (blocks l held) o →
+      Branched (heldE plan draws l) (plan .statements) (heldTs g claim plan draws l) (heldRs plan draws l) (midOf a (length out - a) out) x h k →
+      putMid a (length out - a) out x ≡ written (blocks (l + 1) held) o
+  unfolding held
+  held-more l a o out x h k ea eo b =
+      more (blocks l held) (held l) o out x a (length-blocks l (4 + 12 * plan .statements) held (λ l h. length-held l) ∙ sym ea) eo (b .wrote)
+      ∙ rw (blocks-more held l)
+
+  -- the challenge that is left for the known branch
+  pub challenge-is : (e : ℕ) →
+      e ≡ (long (sha256 (label ++ blocks (plan .branches) (λ l. blocks (plan .statements) (heldTs g claim plan draws l)))) 0 % g .q
+      + againstOf (g .q) plan draws (plan .branches)) % g .q → e ≡ c
+  unfolding trueChallenge wholeChallenge againstOf
+  challenge-is e h =
+      let s : blocks (plan .branches) (λ l. blocks (plan .statements) (ts l)) ≡ blocks (plan .branches) (λ l. blocks (plan .statements) (heldTs g claim plan draws l)) =
+      blocks-same (plan .branches) _ _ (λ l k. blocks-same (plan .statements) _ _ (λ i m. same-ts l i)) in
+      h ∙ rw s
+
+  -- the known branch with its answers
+  known-branch : (e at : ℕ) (t : ℕ → List ℕ) → e ≡ c → at ≡ drawsOf plan (plan .known) →
+      ((i : ℕ) → i < plan .statements → t i ≡ heldTs g claim plan draws (plan .known) i) →
+      branchOf e (plan .statements) t (answers (g .q) e witness draws at) ≡ final (plan .known)
+  unfolding final
+  known-branch e at t h a s =
+      let k : eqb (plan .known) (plan .known) ≡ true = eq-eqb (plan .known) (plan .known) refl in
+      branch-same e (es (plan .known)) (plan .statements) t (ts (plan .known)) (answers (g .q) e witness draws at) (rs (plan .known))
+      (h ∙ rw k) (λ i m. s i m ∙ sym (same-ts (plan .known) i)) (λ i m. rw (k, h, a))
+
+  module _ (inside : plan .known < plan .branches) where
+    rest : ℕ
+    rest = plan .branches - plan .known - 1
+
+    around : (f : ℕ → List ℕ) → blocks (plan .branches) f ≡ blocks (plan .known) f ++ (f (plan .known) ++ blocks rest (λ j. f (plan .known + 1 + j)))
+    unfolding rest
+    around f =
+        let n : plan .branches ≡ plan .known + 1 + rest = omega arith in
+        ap (λ (m : ℕ). blocks m f) n ∙ blocks-around f (plan .known) rest
+
+    pub joined : (o l r : List ℕ) (a e at : ℕ) → a ≡ plan .known * (4 + 12 * plan .statements) → e ≡ c → at ≡ drawsOf plan (plan .known) →
+        l ≡ written (blocks (plan .branches) held) o →
+        r ≡ written (branchOf e (plan .statements) (λ i. part (midOf a (length l - a) l) (4 + 12 * i) 8) (answers (g .q) e witness draws at)) (midOf a (length l - a) l) →
+        putMid a (length l - a) l r ≡ written (proofOf label g claim plan witness draws) o
+    joined o l r a e at ea ee eat el er =
+        let x : List ℕ = blocks (plan .known) held in
+        let old : List ℕ = held (plan .known) in
+        let y : List ℕ = blocks rest (λ j. held (plan .known + 1 + j)) in
+        let n : length x ≡ a = length-blocks (plan .known) (4 + 12 * plan .statements) held (λ l h. length-held l) ∙ sym ea in
+        let el' : l ≡ written (x ++ (old ++ y)) o = el ∙ ap (λ (w : List ℕ). written w o) (around held) in
+        let new : branchOf e (plan .statements) (λ i. part (midOf a (length l - a) l) (4 + 12 * i) 8) (answers (g .q) e witness draws at) ≡ final (plan .known) =
+        known-branch e at (λ i. part (midOf a (length l - a) l) (4 + 12 * i) 8) ee eat
+        (λ i h. rw (rest-from x (old ++ y) o l a n el', append-assoc) (held-part (plan .known) i _ h)) in
+        let m : length (final (plan .known)) ≡ length old = length-final (plan .known) ∙ sym (length-held (plan .known)) in
+        patch x old (final (plan .known)) y o l r a n m el' (er ∙ ap (λ (w : List ℕ). written w (midOf a (length l - a) l)) new)
+        ∙ ap (λ (w : List ℕ). written w o)
+        (ap₂ _++_ (blocks-same (plan .known) held final (λ l h. same-branch l (λ k. omega arith)))
+        (ap (λ (w : List ℕ). final (plan .known) ++ w)
+        (blocks-same rest (λ j. held (plan .known + 1 + j)) (λ j. final (plan .known + 1 + j)) (λ j h. same-branch (plan .known + 1 + j) (λ k. omega arith))))
+        ∙ sym (around final) ∙ sym proof-is)

@@ -1,0 +1,5 @@
+pub mod Same
+pub mod Stating
+pub mod Branches
+pub mod Draws
+pub mod Joining

@@ -1,0 +1,65 @@
+-- A proof depends on its claims outside the known branch alone, and on its witnesses modulo q; and how long it is. Assumes nothing.
+use Prim.Native.Nat.{ℕ, zero, suc, _+_, _*_, _-_, _%_, _≤_, _<_}
+use mathlib.Core.Path.{_≡_, refl, sym, ap, ap₂, _∙_}
+use mathlib.Core.Bool.{Bool, true, false, cond}
+use mathlib.Core.List.{List, _++_}
+use native.Mathlib.Nat.{add-mod-mod}
+use native.Mathlib.Omega.{arith}
+use borrow.Author.Tests.{eqb-true, eqb-false}
+use lib.Dec.{eqb}
+use lib.ListN.{length, length-append}
+use Rattle.numbers.specs.Below.{sumBelow, blocks}
+use Rattle.numbers.proofs.Blocks.{blocks-same, length-blocks}
+use Rattle.numbers.proofs.Tests.{by-cases}
+use Rattle.numbers.proofs.Residues.{mul-mod-right}
+use Rattle.group.specs.Elements.{Parameters}
+use Rattle.rules.specs.Bytes.{bytes4}
+use Rattle.rules.specs.Proofs.{Statement}
+use Rattle.jobs.specs.Prover.{Prover, committed, commitment, challengeOf, responseOf, nonce, wholeChallenge, trueChallenge, proofBytes}
+
+pub length-proof : (hash : List ℕ → List ℕ) (label : List ℕ) (g : Parameters) (pr : Prover) →
+    length (proofBytes g pr hash label) ≡ pr .branches * (4 + 12 * pr .statements)
+unfolding proofBytes
+length-proof hash label g pr =
+    length-blocks (pr .branches) (4 + 12 * pr .statements) _ (λ l h.
+    let n : length (blocks (pr .statements) (λ i. committed g pr l i ++ bytes4 (responseOf g pr hash label l i))) ≡ pr .statements * 12 =
+    length-blocks (pr .statements) 12 _ (λ i k. refl) in
+    simp length-append (omega arith))
+
+module _ (hash : List ℕ → List ℕ) (label : List ℕ) (g : Parameters) (draw : ℕ → ℕ) (branches statements known from : ℕ) where
+  abbrev maker : (ℕ → ℕ → Statement) → (ℕ → ℕ) → Prover
+  maker claim w =
+      record { branches = branches; statements = statements; claim = claim; known = known; witness = w; draw = draw; from = from }
+
+  module _ (claim claim' : ℕ → ℕ → Statement) (w w' : ℕ → ℕ)
+      (same : (l i : ℕ) → l < branches → i < statements → (l ≡ known → ⊥) → claim l i ≡ claim' l i)
+      (near : (i : ℕ) → i < statements → w i % g .q ≡ w' i % g .q) where
+    same-committed : (l i : ℕ) → l < branches → i < statements → committed g (maker claim w) l i ≡ committed g (maker claim' w') l i
+    unfolding commitment
+    same-committed l i h k = by-cases (eqb l known) (λ e. rw e) (λ e. rw (e, same l i h k (eqb-false l known e)))
+
+    same-whole : wholeChallenge g (maker claim w) hash label ≡ wholeChallenge g (maker claim' w') hash label
+    unfolding wholeChallenge
+    same-whole =
+        let s : blocks branches (λ l. blocks statements (committed g (maker claim w) l)) ≡ blocks branches (λ l. blocks statements (committed g (maker claim' w') l)) =
+        blocks-same branches _ _ (λ l h. blocks-same statements _ _ (λ i k. same-committed l i h k)) in
+        rw s
+
+    same-true : trueChallenge g (maker claim w) hash label ≡ trueChallenge g (maker claim' w') hash label
+    unfolding trueChallenge
+    same-true = rw same-whole
+
+    answer-near : (a c x y : ℕ) → x % g .q ≡ y % g .q → (a + c * x) % g .q ≡ (a + c * y) % g .q
+    answer-near a c x y e =
+        cc (add-mod-mod a (c * x) (g .q), add-mod-mod a (c * y) (g .q), mul-mod-right c x (g .q), mul-mod-right c y (g .q))
+
+    same-response : (l i : ℕ) → i < statements → responseOf g (maker claim w) hash label l i ≡ responseOf g (maker claim' w') hash label l i
+    same-response l i k =
+        by-cases (eqb l known) (λ e. rw (e, same-true) (answer-near _ _ (w i) (w' i) (near i k))) (λ e. rw e)
+
+    pub proof-same : proofBytes g (maker claim w) hash label ≡ proofBytes g (maker claim' w') hash label
+    unfolding proofBytes
+    proof-same =
+        blocks-same branches _ _ (λ l h.
+        ap₂ _++_ (ap bytes4 (by-cases (eqb l known) (λ e. rw (e, same-true)) (λ e. rw e)))
+        (blocks-same statements _ _ (λ i k. ap₂ _++_ (same-committed l i h k) (ap bytes4 (same-response l i k)))))

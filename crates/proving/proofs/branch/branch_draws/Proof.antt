@@ -1,0 +1,29 @@
+use Prim.Native.Nat.{_+_, _*_, _≤_}
+use mathlib.Core.Path.{refl}
+use native.Mathlib.Nat.{mul-le-mul-right}
+use native.Mathlib.Omega.{arith}
+use borrow.Author.Tests.{lt-ltb, le-ltb}
+use borrow.Author.Needs.{needs}
+use Rattle.proving.proofs.branch.branch_draws.Statement.{statement}
+use Rattle.proving.proofs.branch.branch_draws.Tie as tie
+
+mul-at : tie.Need-mul-at
+mul-at c =
+    let f = c .before .args in
+    let u : f .l * (1 + f .plan .statements) ≤ 8 * (1 + f .plan .statements) = mul-le-mul-right (1 + f .plan .statements) (omega arith) in
+    omega arith
+
+add-at-2 : tie.Need-add-at-2
+add-at-2 c =
+    let f = c .before .before .args in
+    let u : f .l * (1 + f .plan .statements) ≤ 8 * (1 + f .plan .statements) = mul-le-mul-right (1 + f .plan .statements) (omega arith) in
+    omega arith
+
+returns : tie.Need-returns
+returns c = rw (lt-ltb _ _ (c .if1 .taken))
+
+returns-2 : tie.Need-returns-2
+returns-2 c = rw (le-ltb _ _ (c .if1 .left)) (omega arith)
+
+pub branch-draws-spec : {M : Type 1} → statement M
+branch-draws-spec = tie.close (tie.spec (λ c. search needs) mul-at add-at-2 (λ c. search needs) returns returns-2)

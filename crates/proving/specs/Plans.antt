@@ -1,0 +1,119 @@
+-- How a proof is made, in the terms of the rules.
+use Prim.Native.Nat.{ℕ, _+_, _*_, _-_, _%_, _^_, _≤_, _<_}
+use mathlib.Core.Path.{_≡_}
+use mathlib.Core.Bool.{cond}
+use mathlib.Core.List.{List, _++_}
+use lib.Dec.{ltb, eqb}
+use lib.ListN.{length, getD}
+use Rattle.numbers.specs.Below.{sumBelow, blocks}
+use Rattle.group.specs.Arithmetic.{mulMod, powMod}
+use Rattle.rules.specs.Bytes.{bytes4}
+use Rattle.group.specs.Elements.{Parameters}
+use Rattle.rules.specs.Proofs.{Statement}
+use Rattle.jobs.specs.Prover.{Prover, proofBytes}
+use Rattle.sha256.specs.Message.{sha256}
+use Rattle.sha256.specs.Feed.{Fed}
+use Rattle.sha256.specs.declared.Hasher.{Hasher}
+use Rattle.output.specs.Written.{written}
+use Rattle.statements.specs.Claims.{Within}
+use Rattle.statements.specs.declared.claims.Claim.{Claim}
+use Rattle.proving.specs.declared.Plan.{Plan}
+
+-- the commitments of a statement in the branch whose witness is known, by its nonce, and in another, by its challenge and response
+unfoldable pub truePair : Parameters → (nonce : ℕ) → List ℕ
+truePair g x = bytes4 (powMod (g .p) (g .g0) x) ++ bytes4 (powMod (g .p) (g .g1) x)
+
+abbrev pub falseSide : Parameters → (base side e r : ℕ) → ℕ
+falseSide g base side e r = mulMod (g .p) (powMod (g .p) base r) (powMod (g .p) side (g .q - e))
+
+unfoldable pub falsePair : Parameters → Statement → (e r : ℕ) → List ℕ
+falsePair g s e r = bytes4 (falseSide g (g .g0) (s .left) e r) ++ bytes4 (falseSide g (g .g1) (s .right) e r)
+
+-- a statement was written, and its commitments fed
+pub record Stated (t : List ℕ) (r : ℕ) (before after : List ℕ) (h k : Hasher) : Type 0 where
+  pub wrote : after ≡ written (t ++ bytes4 r) before
+  pub fed : (m : List ℕ) → Fed h m → Fed k (m ++ t)
+
+-- a branch: a challenge, then for each statement its commitments and response
+unfoldable pub branchOf : (e S : ℕ) (t : ℕ → List ℕ) (r : ℕ → ℕ) → List ℕ
+branchOf e S t r = bytes4 e ++ blocks S (λ i. t i ++ bytes4 (r i))
+
+-- of the drawn branch whose draws start at a place
+abbrev pub falseTs : Parameters → (ℕ → Statement) → (draws : List ℕ) (at : ℕ) → ℕ → List ℕ
+falseTs g claim draws at i = falsePair g (claim i) (getD draws at 0) (getD draws (at + 1 + i) 0)
+
+abbrev pub falseRs : (draws : List ℕ) (at : ℕ) → ℕ → ℕ
+falseRs draws at i = getD draws (at + 1 + i) 0
+
+-- of the known branch
+abbrev pub trueTs : Parameters → (draws : List ℕ) (at : ℕ) → ℕ → List ℕ
+trueTs g draws at i = truePair g (getD draws (at + i) 0)
+
+abbrev pub trueRs : (draws : List ℕ) (at : ℕ) → ℕ → ℕ
+trueRs draws at i = getD draws (at + i) 0
+
+-- a branch was written, and its commitments fed
+pub record Branched (e S : ℕ) (t : ℕ → List ℕ) (r : ℕ → ℕ) (before after : List ℕ) (h k : Hasher) : Type 0 where
+  pub wrote : after ≡ written (branchOf e S t r) before
+  pub fed : (m : List ℕ) → Fed h m → Fed k (m ++ blocks S t)
+
+-- the responses of the known branch under a challenge
+abbrev pub answers : (q e : ℕ) (witness draws : List ℕ) (at : ℕ) → ℕ → ℕ
+answers q e witness draws at i = (getD draws (at + i) 0 + e * getD witness i 0) % q
+
+-- where a branch's draws start
+abbrev pub drawsOf : Plan → ℕ → ℕ
+drawsOf plan l = plan .from + l * (1 + plan .statements) - cond (ltb (plan .known) l) 1 0
+
+-- the plan's draws are there, and those that it uses are below q
+pub record Drawn (q : ℕ) (plan : Plan) (draws : List ℕ) : Type 0 where
+  pub positive : 0 < q
+  pub low : q < 2 ^ 32
+  pub few : plan .branches ≤ 8
+  pub known : plan .known < plan .branches
+  pub small : plan .statements < 100
+  pub near : plan .from < 2 ^ 40
+  pub enough : plan .from + plan .branches * (1 + plan .statements) ≤ length draws + 1
+  pub below : (d : ℕ) → d + 1 < plan .from + plan .branches * (1 + plan .statements) → getD draws d 0 < q
+
+-- and the pairs that the claim names stand on the page
+pub record Planned (g : Parameters) (page inverses : List ℕ) (n : ℕ) (claim : Claim) (plan : Plan) (draws : List ℕ) : Type 0 where
+  pub drawn : Drawn (g .q) plan draws
+  pub ready : (l i : ℕ) → l < plan .branches → i < plan .statements → (l ≡ plan .known → ⊥) → Within page inverses g n claim l i
+
+-- a branch before the known one's challenge is known: 0 stands for it, and the nonces for the responses
+unfoldable pub heldE : Plan → (draws : List ℕ) (l : ℕ) → ℕ
+heldE plan draws l = cond (eqb l (plan .known)) 0 (getD draws (drawsOf plan l) 0)
+
+unfoldable pub heldTs : Parameters → (ℕ → ℕ → Statement) → Plan → (draws : List ℕ) (l i : ℕ) → List ℕ
+heldTs g claim plan draws l i = cond (eqb l (plan .known)) (trueTs g draws (drawsOf plan l) i) (falseTs g (claim l) draws (drawsOf plan l) i)
+
+unfoldable pub heldRs : Plan → (draws : List ℕ) (l i : ℕ) → ℕ
+heldRs plan draws l i = cond (eqb l (plan .known)) (trueRs draws (drawsOf plan l) i) (falseRs draws (drawsOf plan l) i)
+
+unfoldable pub againstOf : (q : ℕ) → Plan → (draws : List ℕ) → ℕ → ℕ
+againstOf q plan draws n = sumBelow n (λ l. cond (eqb l (plan .known)) 0 (q - getD draws (drawsOf plan l) 0))
+
+-- what the rules say of the maker of a proof under a plan
+abbrev pub proverOf : (ℕ → ℕ → Statement) → Plan → (witness draws : List ℕ) → Prover
+proverOf claim plan witness draws =
+    record {
+      branches = plan .branches;
+      statements = plan .statements;
+      claim = claim;
+      known = plan .known;
+      witness = λ i. getD witness i 0;
+      draw = λ d. getD draws d 0;
+      from = plan .from;
+    }
+
+abbrev pub proofOf : (label : List ℕ) → Parameters → (ℕ → ℕ → Statement) → Plan → (witness draws : List ℕ) → List ℕ
+proofOf label g claim plan witness draws = proofBytes g (proverOf claim plan witness draws) sha256 label
+
+-- so many draws from a place on are there, and below q
+pub record Spread (q : ℕ) (draws : List ℕ) (from count : ℕ) : Type 0 where
+  pub positive : 0 < q
+  pub low : q < 2 ^ 32
+  pub near : from + count < 2 ^ 40
+  pub enough : from + count ≤ length draws
+  pub below : (d : ℕ) → d < from + count → getD draws d 0 < q

@@ -1,0 +1,154 @@
+// One branch of a proof: its challenge, and its statements.
+use crate::Plan;
+use crate::statement;
+use group::Exponent;
+use group::Group;
+use sha256::Hasher;
+use statements::Setup;
+use statements::claims;
+use statements::claims::Claim;
+ghost use mathlib.Core.Path.{_≡_};
+ghost use Prim.Native.Nat.{ℕ, _+_, _*_, _%_, _^_, _≤_, _<_};
+ghost use lib.ListN.{length, getD};
+ghost use Rattle.group.specs.Elements.{parametersOf};
+ghost use Rattle.rules.specs.Bytes.{part};
+ghost use Rattle.statements.specs.Values.{Ready};
+ghost use Rattle.statements.specs.Claims.{claimOf, Within};
+ghost use Rattle.output.specs.Written.{written};
+ghost use Rattle.proving.specs.Plans.{Branched, branchOf, answers, drawsOf, Planned, heldE, heldTs, heldRs, falseTs, falseRs, trueTs, trueRs};
+
+// Where a branch's draws start.
+pub fn branch_draws(plan: Plan, l: usize) -> usize
+    requires { ⌜ (l < 9) × (plan .statements < 100) × (plan .from < 2 ^ 40) ⌝ }
+    ensures { λ r. ⌜ r ≡ drawsOf plan l ⌝ }
+{
+    let at = plan.from + l * (1 + plan.statements);
+    if plan.known < l {
+        return at - 1;
+    }
+    at
+}
+
+// A branch whose witness is not known: its challenge and responses are drawn.
+fn false_branch(
+    out: &mut [u8],
+    h: Hasher,
+    g: Setup,
+    page: &[u8],
+    inverses: &[u32],
+    n: usize,
+    claim: Claim,
+    l: usize,
+    statements: usize,
+    draws: &[u32],
+    at: usize,
+) -> Hasher
+    requires { ⌜ Ready g × (statements < 100) × (4 + 12 * statements ≤ length (now out)) × (at + 1 + statements ≤ length (now draws)) ⌝ }
+    requires { ⌜ getD (now draws) at 0 < g .group .q ⌝ }
+    requires { ⌜ ((i : ℕ) → i < statements → Within (now page) (now inverses) (parametersOf (g .group)) n claim l i) ⌝ }
+    ensures { λ k. ⌜ Branched (getD (now (draws .entry)) at 0) statements (falseTs (parametersOf (g .group)) (claimOf (now (page .entry)) (parametersOf (g .group)) n claim l) (now (draws .entry)) at) (falseRs (now (draws .entry)) at) (now (out .entry)) (now (out .exit)) h k ⌝ }
+{
+    let group = g.group;
+    let e = draws[at];
+    output::put_word(out, e);
+    let mut k = h;
+    for i in 0..statements {
+        let s = claims::claimed(page, inverses, g, n, claim, l, i);
+        let place = 4 + 12 * i;
+        let r = draws[at + 1 + i];
+        let next = statement::put_false(&mut out[place..], k, group, s, Exponent(e), Exponent(r));
+        k = next;
+    }
+    k
+}
+
+// The branch whose witness is known: 0 for its challenge, and the nonces for its responses, until the challenge is known.
+fn true_branch(
+    out: &mut [u8],
+    h: Hasher,
+    g: Group,
+    statements: usize,
+    draws: &[u32],
+    at: usize,
+) -> Hasher
+    requires { ⌜ (0 < g .p) × (statements < 100) × (4 + 12 * statements ≤ length (now out)) × (at + statements ≤ length (now draws)) ⌝ }
+    ensures { λ k. ⌜ Branched 0 statements (trueTs (parametersOf g) (now (draws .entry)) at) (trueRs (now (draws .entry)) at) (now (out .entry)) (now (out .exit)) h k ⌝ }
+{
+    output::put_word(out, 0);
+    let mut k = h;
+    for i in 0..statements {
+        let place = 4 + 12 * i;
+        let x = draws[at + i];
+        let next = statement::put_true(&mut out[place..], k, g, Exponent(x));
+        k = next;
+    }
+    k
+}
+
+// Branch l, before the known one's challenge is known.
+pub fn commit_branch(
+    out: &mut [u8],
+    h: Hasher,
+    g: Setup,
+    page: &[u8],
+    inverses: &[u32],
+    n: usize,
+    claim: Claim,
+    plan: Plan,
+    l: usize,
+    draws: &[u32],
+) -> Hasher
+    requires { ⌜ Ready g × Planned (parametersOf (g .group)) (now page) (now inverses) n claim plan (now draws) ⌝ }
+    requires { ⌜ (l < plan .branches) × (4 + 12 * plan .statements ≤ length (now out)) ⌝ }
+    ensures { λ k. ⌜ Branched (heldE plan (now (draws .entry)) l) (plan .statements) (heldTs (parametersOf (g .group)) (claimOf (now (page .entry)) (parametersOf (g .group)) n claim) plan (now (draws .entry)) l) (heldRs plan (now (draws .entry)) l) (now (out .entry)) (now (out .exit)) h k ⌝ }
+{
+    let group = g.group;
+    let at = branch_draws(plan, l);
+    let statements = plan.statements;
+    let known = plan.known;
+    if l == known {
+        return true_branch(out, h, group, statements, draws, at);
+    }
+    false_branch(
+        out,
+        h,
+        g,
+        page,
+        inverses,
+        n,
+        claim,
+        l,
+        statements,
+        draws,
+        at,
+    )
+}
+
+fn response(q: u32, e: Exponent, nonce: Exponent, witness: Exponent) -> Exponent
+    requires { ⌜ 0 < q ⌝ }
+    ensures { λ r. ⌜ r .0 ≡ (nonce .0 + e .0 * witness .0) % q ⌝ }
+{
+    group::add(q, nonce, group::mul_exp(q, e, witness))
+}
+
+// The known branch's challenge and responses, beside the commitments that stand there.
+pub fn answer(
+    out: &mut [u8],
+    q: u32,
+    e: Exponent,
+    statements: usize,
+    witness: &[u32],
+    draws: &[u32],
+    at: usize,
+)
+    requires { ⌜ (0 < q) × (statements < 100) × (4 + 12 * statements ≤ length (now out)) ⌝ }
+    requires { ⌜ (at + statements ≤ length (now draws)) × (statements ≤ length (now witness)) ⌝ }
+    ensures { λ _. ⌜ now (out .exit) ≡ written (branchOf (e .0) statements (λ i. part (now (out .entry)) (4 + 12 * i) 8) (answers q (e .0) (now (witness .entry)) (now (draws .entry)) at)) (now (out .entry)) ⌝ }
+{
+    output::put_word(out, e.0);
+    for i in 0..statements {
+        let place = 12 + 12 * i;
+        let r = response(q, e, Exponent(draws[at + i]), Exponent(witness[i]));
+        output::put_word(&mut out[place..], r.0);
+    }
+}

@@ -1,0 +1,99 @@
+// A proof made in its place on the board by one who knows the witness of one branch: the commitments are fed to the hash as they arise, and the
+// true branch's challenge and responses are written last.
+use group::Exponent;
+use sha256::Hasher;
+use statements::Setup;
+use statements::claims::Claim;
+ghost use mathlib.Core.Path.{_≡_};
+ghost use Prim.Native.Nat.{_+_, _*_, _%_, _^_, _≤_, _<_};
+ghost use lib.ListN.{length};
+ghost use Rattle.group.specs.Elements.{parametersOf};
+ghost use Rattle.statements.specs.Values.{Ready};
+ghost use Rattle.statements.specs.Claims.{claimOf};
+ghost use Rattle.output.specs.Written.{written};
+ghost use Rattle.proving.specs.Plans.{Drawn, Planned, againstOf, proofOf};
+
+pub mod branch;
+pub mod statement;
+
+// The size of a proof, the branch whose witness is known, and where its draws start.
+pub struct Plan {
+    pub branches: usize,
+    pub statements: usize,
+    pub known: usize,
+    pub from: usize,
+}
+
+// What the drawn challenges take from the whole one: the sum of their distances to q.
+fn against(q: u32, plan: Plan, draws: &[u32]) -> u64
+    requires { ⌜ Drawn q plan (now draws) ⌝ }
+    ensures { λ r. ⌜ (r ≡ againstOf q plan (now (draws .entry)) (plan .branches)) × (r < 2 ^ 40) ⌝ }
+{
+    let branches = plan.branches;
+    let known = plan.known;
+    let mut sum = 0;
+    for l in 0..branches {
+        if l != known {
+            let at = branch::branch_draws(plan, l);
+            sum += (q - draws[at]) as u64;
+        }
+    }
+    sum
+}
+
+fn rest_of(x: u64, q: u32) -> Exponent
+    requires { ⌜ 0 < q ⌝ }
+    ensures { λ r. ⌜ r .0 ≡ x % q ⌝ }
+{
+    Exponent((x % (q as u64)) as u32)
+}
+
+// A whole proof of a claim about matrices of n columns that stand on a page. What the known branch's statements are does not matter: it is
+// made from their witnesses.
+pub fn make(
+    out: &mut [u8],
+    label: &[u8],
+    g: Setup,
+    page: &[u8],
+    inverses: &[u32],
+    n: usize,
+    claim: Claim,
+    plan: Plan,
+    witness: &[u32],
+    draws: &[u32],
+)
+    requires { ⌜ Ready g × Planned (parametersOf (g .group)) (now page) (now inverses) n claim plan (now draws) ⌝ }
+    requires { ⌜ (plan .branches * (4 + 12 * plan .statements) ≤ length (now out)) × (plan .statements ≤ length (now witness)) ⌝ }
+    ensures { λ _. ⌜ now (out .exit) ≡ written (proofOf (now (label .entry)) (parametersOf (g .group)) (claimOf (now (page .entry)) (parametersOf (g .group)) n claim) plan (now (witness .entry)) (now (draws .entry))) (now (out .entry)) ⌝ }
+{
+    let branches = plan.branches;
+    let statements = plan.statements;
+    let known = plan.known;
+    let q = g.group.q;
+    let width = 4 + 12 * statements;
+    let first = Hasher::new();
+    let mut h = first.update(label);
+    for l in 0..branches {
+        let place = l * width;
+        let next = branch::commit_branch(
+            &mut out[place..],
+            h,
+            g,
+            page,
+            inverses,
+            n,
+            claim,
+            plan,
+            l,
+            draws,
+        );
+        h = next;
+    }
+    let sum = against(q, plan, draws);
+    let digest = h.finish();
+    let whole = statements::challenge(&digest, q);
+    let e = rest_of((whole.0 as u64) + sum, q);
+    let at = branch::branch_draws(plan, known);
+    let place = known * width;
+    branch::answer(&mut out[place..], q, e, statements, witness, draws, at);
+}

@@ -1,0 +1,15 @@
+use mathlib.Core.Path.{_≡_}
+use Rattle.group.specs.Elements.{Parameters}
+use borrow.Author.Needs.{needs}
+use Rattle.writer.proofs.tests.group_of.Statement.{statement}
+use Rattle.writer.proofs.tests.group_of.Tie as tie
+
+returns : tie.Need-returns
+returns c = let f = c .before .before .before .args in λ i. record { p = f .job .p; q = f .job .q; g0 = f .job .g0 .0; g1 = c .derived .ensures i }
+
+pub group-of-spec : {M : Type 1} → statement M
+group-of-spec =
+    tie.close
+    (tie.spec
+    (λ c κs. search needs)
+    returns)

@@ -1,0 +1,60 @@
+// The tests of a job's label, its draws, and the group that it fixes.
+use crate::Job;
+use group::Group;
+ghost use mathlib.Core.Path.{_≡_};
+ghost use mathlib.Core.Bool.{_&&_};
+ghost use mathlib.Core.List.{[]};
+ghost use Prim.Native.Nat.{ℕ, _<_};
+ghost use lib.Dec.{leb, ltb, eqb};
+ghost use lib.ListN.{length, getD};
+ghost use Rattle.numbers.specs.Below.{allBelow};
+ghost use Rattle.sha256.specs.Message.{sha256};
+ghost use Rattle.group.specs.Elements.{parametersOf};
+ghost use Rattle.rules.specs.Group.{generators};
+ghost use Rattle.jobs.specs.Job.{groupOf};
+ghost use Rattle.writer.specs.Jobs.{jobOf};
+
+// The group of a job, g1 worked out.
+pub fn group_of(job: Job, label: &[u8]) -> Group
+    requires { ⌜ (0 < job .p) × (0 < job .q) ⌝ }
+    ensures { λ r. ⌜ parametersOf r ≡ groupOf sha256 (jobOf job (now (label .entry)) [] []) ⌝ }
+{
+    let g0 = job.g0;
+    let g1 = parameters::derived(label, job.p, job.q, g0, job.counter);
+    Group {
+        p: job.p,
+        q: job.q,
+        g0,
+        g1,
+    }
+}
+
+// The label's length, and the rules on g0 and g1.
+pub fn label_good(label: &[u8], counter: u8, g: Group) -> bool
+    requires { ⌜ (0 < g .p) × (0 < g .q) ⌝ }
+    ensures { λ r. ⌜ r ≡ (eqb (length (now (label .entry))) 32 && generators sha256 (now (label .entry)) counter (parametersOf g)) ⌝ }
+{
+    if label.len() != 32 {
+        return false;
+    }
+    parameters::generators_good(label, counter, g)
+}
+
+// Whether so many draws are there, each from 1 to q - 1.
+pub fn draws_good(draws: &[u32], needed: usize, q: u32) -> bool
+    ensures { λ r. ⌜ r ≡ (leb needed (length (now (draws .entry))) && allBelow needed (λ d. leb 1 (getD (now (draws .entry)) d 0) && ltb (getD (now (draws .entry)) d 0) q)) ⌝ }
+{
+    if draws.len() < needed {
+        return false;
+    }
+    for d in 0..needed {
+        let x = draws[d];
+        if x < 1 {
+            return false;
+        }
+        if q <= x {
+            return false;
+        }
+    }
+    true
+}
