@@ -1,0 +1,55 @@
+// Checks the boards of standard input, and prints a line for each: its name and the verdict.
+use libc::STDIN_FILENO;
+use rules::Answer;
+use testing::input;
+use testing::input::Piece;
+use testing::print;
+
+fn print_answer(answer: Answer, order: [u8; 8]) {
+    match answer {
+        Answer::Accepted { rounds, winner } => {
+            print::text(b" accepted ");
+            print::result(rounds, order, winner);
+        }
+        Answer::Refused { refusal, record } => {
+            print::text(b" ");
+            print::refused(refusal, record);
+        }
+    }
+}
+
+fn check(name: &[u8], board: &[u8]) {
+    let checked = checker::check(board);
+    let answer = checked.answer;
+    let order = checked.order;
+    print::text(name);
+    print_answer(answer, order);
+    print::text(b"\n");
+}
+
+// Each frame is a name and a board.
+fn run(input: &[u8]) {
+    let mut at = 0;
+    while at < input.len() {
+        let Piece::Bytes(a, b) = input::piece_at(input, at) else {
+            print::bad_input();
+            return;
+        };
+        let Piece::Bytes(c, d) = input::piece_at(input, b) else {
+            print::bad_input();
+            return;
+        };
+        check(&input[a..b], &input[c..d]);
+        at = d;
+    }
+}
+
+fn main() {
+    let mut input = input::room();
+    let n = io::read_full(STDIN_FILENO, &mut input);
+    if n == input::LIMIT {
+        print::bad_input();
+        return;
+    }
+    run(&input[..n]);
+}

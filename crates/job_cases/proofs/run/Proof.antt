@@ -1,0 +1,39 @@
+-- `run` is safe and ends: each frame ends behind its start, within the input. Assumes nothing.
+use denote.Ref.{now}
+use Prim.Native.Nat.{_-_, _≤_}
+use native.Mathlib.Omega.{arith}
+use lib.ListN.{length}
+use borrow.Author.Needs.{needs}
+use Rattle.job_cases.specs.Frames.{Within, Told}
+use Rattle.job_cases.proofs.run.Statement.{statement}
+use Rattle.job_cases.proofs.run.Tie as tie
+
+abbrev Inv-loop : tie.InvT-loop
+Inv-loop input at₀ at = at ≤ length input
+
+abbrev μ-loop : tie.MeasureT-loop
+μ-loop input at₀ at = length input - at
+
+told : (c : tie.After-known-told Inv-loop μ-loop) →
+    Within (now (c .before .before .before .before .before .before .before .args .input)) (c .before .before .before .before .before .loop .at) (c .before .ends .given .0 .0)
+unfolding Told
+told c = rw (c .before .ends .given .1) at (c .before .before .before .read .ensures)
+
+pub run-spec : {M : Type 1} → statement M
+run-spec =
+    tie.close
+    (tie.spec
+    Inv-loop
+    μ-loop
+    (λ c. search needs)
+    (λ c κs. search needs)
+    (λ c. search needs)
+    (λ c. search needs)
+    (λ c κs. search needs)
+    (λ c. search needs)
+    (λ c κs. told c)
+    (λ c κs. search needs)
+    (λ c. search needs)
+    (λ c. omega (arith, told (c .before .before)))
+    (λ c. told (c .before .before) .ended)
+    (λ c. search needs))

@@ -1,0 +1,147 @@
+"""The lists of stored cases: what they have to cover, and how one is filed."""
+import re
+
+BIG = 2 ** 32 - 1
+PLACES = ('first', 'middle', 'last')
+
+BOARDS = {
+    'hand.empty': '01 by hand: empty board is 1, record 0',
+    'hand.n': '01 by hand: n = 8 passes, 9 is 3',
+    'hand.K': '01 by hand: K = 1,000 passes, 1,001 and 0 are 3',
+    'hand.q': '01 by hand: q = K is 4',
+    'hand.526': '01 by hand: n = 2, K = 2: 526 bytes',
+    'hand.2534': '01 by hand: three rankings: 2,534 bytes, rounds 2, out 3, winner 1',
+    '1': 'refusal 1: each record cut',
+    '2': 'refusal 2: mark of each record',
+    '3': 'refusal 3: n, K',
+    '4': 'refusal 4: p, q',
+    '5': 'refusal 5: g0, counter or g1, label',
+    '6.BA': 'refusal 6: number of a ballot',
+    '6.SH': 'refusal 6: number of a shift',
+    '6.RT': 'refusal 6: round of a sheet',
+    '7.BA': 'refusal 7: field of a ballot',
+    '7.SH': 'refusal 7: field of a shift',
+    '7.RT': 'refusal 7: s of a sheet',
+    '8.BA': 'refusal 8: proof of a ballot',
+    '8.SH': 'refusal 8: proof of a shift',
+    '9': 'refusal 9: count of a process',
+    '10': 'refusal 10: tally of a process, by count and by s',
+    '11': 'refusal 11: out of a sheet',
+    '12': 'refusal 12: one byte, a record, a board more',
+    'outside': 'elements outside the group; in some every equation holds',
+    'printed': 'rows that the printed theorem leaves unchecked',
+    'entry2': 'an entry of 2 with a -1 beside it',
+    'sums': 'rows or columns that do not sum to 1',
+    'equation': 'one equation, or the sum of challenges, fails and all else holds',
+    'struck': 'another row or process struck, an entry changed, ballots from elsewhere',
+    'forged': 'forged boards of tiny groups',
+    'ties': 'ties, broken rightly and wrongly',
+    'half': 'closing at exactly half, a round early, a round late',
+    'tally': 'votes moved; tallies whose first equation alone holds',
+    'two': 'two faults: the one that is named',
+    'order': 'records left out, twice, exchanged',
+    'orders': 'p and q: composites that weak tests pass, bounds',
+    'edges': 'allowed at the edge: 0 for x, nonce, e, r; least and largest groups',
+    'sound': 'sound boards of 2 to 8 processes',
+    'K1000': 'K = 1,000 with n = 2',
+    'n8': 'n = 8 in 7 rounds',
+}
+
+JOBS = {
+    'hand.526': '01 by hand: n = 2, K = 2: 526 bytes',
+    'hand.2534': '01 by hand: three rankings: 2,534 bytes, 222 draws',
+    '3': 'refusal 3: n, K',
+    '4': 'refusal 4: p, q',
+    '5': 'refusal 5: g0, counter or g1, label',
+    '13.0': 'refusal 13 with 0: the list shorter, longer',
+    '13': 'refusal 13 with the bad ranking',
+    '14.few': 'refusal 14: draws too few',
+    '14': 'refusal 14: a draw of 0, of q or more',
+    '15': 'refusal 15: room for nothing, for the header, for all but a byte',
+    'two': 'two faults: the earlier number',
+    'spare': 'written: spare draws that could not be used',
+    'room': 'written: room to spare, kept as it was',
+    'n': 'written: 2 to 8 processes',
+    'groups': 'written: least, tiny and large groups; counters 0 and 255',
+    'draws': 'written: draws all 1, all q - 1',
+    'ties': 'written: ties',
+    'K1000': 'written: K = 1,000 with n = 2',
+    'n8': 'written: n = 8 in 7 rounds',
+}
+
+# rows that are counted by place, with the places that they have
+PLACED = {key: PLACES for key in BOARDS if key[0].isdigit()}
+PLACED['3'] = PLACED['4'] = ('first', 'last')
+JOB_PLACED = {key: PLACES for key in ('5', '13', '14', '15')}
+JOB_PLACED['3'] = JOB_PLACED['4'] = ('first', 'last')
+
+
+class Cases:
+    """Named cases, each filed under keys of a table: 'KEY', or 'KEY PLACE' for a placed row."""
+
+    def __init__(self, table, placed):
+        self.table, self.placed = table, placed
+        self.items, self.names, self.seen = [], set(), set()
+
+    def add(self, name, case, expect, *covers):
+        """expect: the answer that the making fixes, or None.  A case that is there is not filed
+        again."""
+        for cover in covers:
+            key, _, place = cover.partition(' ')
+            assert key in self.table and place in self.placed.get(key, ('',)), cover
+        if case in self.seen:
+            return
+        name = re.sub('-*([.=])-*', r'\1', re.sub('[^a-z0-9.=+]+', '-', name.lower()))[:70].strip('-')
+        same = sum(n == name or n.startswith(name + '.again') for n in self.names)
+        if same:
+            name += '.again%d' % same
+        self.names.add(name)
+        self.seen.add(case)
+        self.items.append((name, case, expect, covers))
+
+    def rows(self):
+        """(text, number or numbers by place) for each row of the table."""
+        filed = [c for _, _, _, covers in self.items for c in covers]
+        for key, text in self.table.items():
+            if key in self.placed:
+                numbers = [filed.count('%s %s' % (key, p)) if p in self.placed[key] else None
+                           for p in PLACES]
+            else:
+                numbers = [filed.count(key)]
+            assert 0 not in numbers, (text, numbers)
+            yield text, numbers
+
+
+class Pool:
+    """Keeps what a function of mutate.py makes."""
+
+    def __init__(self, make, *args):
+        self.items = []
+        make(self, *args)
+
+    def add(self, name, board, expect=None, note='', sure=True):
+        self.items.append((name, board, expect if sure else None, note))
+
+    def pick(self, cases, name, covers, note='', most=1, key=None, where=None, longest=BIG):
+        """Files the boards of a name whose note matches and for which where(board, note) holds;
+        with a key, at most `most` of each key(board, note)."""
+        groups = {}
+        for item in self.items:
+            if (item[0] == name and re.search(note, item[3]) and len(item[1]) <= longest
+                    and (where is None or where(item[1], item[3]))):
+                groups.setdefault(key(item[1], item[3]) if key else item[1], []).append(item)
+        assert groups, (name, note)
+        for items in groups.values():
+            for _, board, expect, text in spread(items, most):
+                cases.add('%s.%s' % (name, text), board, expect, *covers)
+
+
+def spread(items, most):
+    """At most so many, the first among them and, of two or more, the last."""
+    if len(items) <= most:
+        return items
+    return [items[i * (len(items) - 1) // max(1, most - 1)] for i in range(most)]
+
+
+def place(index, total):
+    return PLACES[0] if index == 0 else PLACES[2] if index == total - 1 else PLACES[1]

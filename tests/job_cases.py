@@ -1,0 +1,171 @@
+"""Writer jobs for the test program `job_cases`, filed under what they cover (covered.py)."""
+import random
+
+import boardref as ref
+import gen
+from covered import BIG, JOB_PLACED, JOBS, Cases
+
+HOUSE = gen.HOUSE
+NAMES = ('n', 'K', 'p', 'q', 'g0', 'counter', 'label', 'rankings', 'draws', 'out_len')
+CYCLE = [[1, 2, 3], [2, 3, 1], [3, 1, 2]]
+
+
+class Job:
+    """A sound job; `but` gives it with some parts changed."""
+
+    def __init__(self, rng, n, lists, group, draws='random', counter=None):
+        p, q, g0 = group
+        g0 = g0 or gen.elements_g0(rng, p, q)
+        label, found = gen.label_counter(rng, p, q, g0)
+        while counter is not None and not ref.g1_holds(g0, ref.make_g1(p, q, g0, counter, label)):
+            label = rng.randbytes(32)
+        self.n, self.K, self.q = n, len(lists), q
+        self.rounds, _, self.outs, self.winner = ref.plain_count(n, lists)
+        self.needed = ref.draws_needed(n, self.K, self.rounds)
+        self.length = ref.board_length(n, self.K, self.rounds)
+        self.parts = dict(zip(NAMES, (
+            n, self.K, p, q, g0, found if counter is None else counter, label,
+            bytes(x for r in lists for x in r), tuple(gen.make_draws(rng, q, self.needed, draws)),
+            self.length)))
+
+    def but(self, **changes):
+        return tuple({**self.parts, **changes}[name] for name in NAMES)
+
+    def written(self):
+        return ('written', self.length, self.rounds, self.outs, self.winner)
+
+
+def put(items, place, value):
+    """bytes or a tuple with one item changed"""
+    return items[:place] + type(items)([value]) + items[place + 1:]
+
+
+def refused(cases, name, job):
+    """Every refusal of a sound job with three rankings, one fault at a time."""
+    parts = job.parts
+    p, q, g0, label = parts['p'], parts['q'], parts['g0'], parts['label']
+    rankings, draws = parts['rankings'], parts['draws']
+
+    def one(part, value, number, which, *covers, text=None):
+        cases.add('%s.%s=%s' % (name, part, value if text is None else text),
+                  job.but(**{part: value}), ('refused', number, which), *covers)
+
+    for value in (0, 1, 9, 256 + 3, BIG):
+        one('n', value, 3, 0, '3 first')
+    for value in (0, 1001, 65536 + 3, BIG):
+        one('K', value, 3, 0, '3 last')
+    for value in (0, 1, p + 1, 2 ** 31 + 11, BIG):
+        one('p', value, 4, 0, '4 first')
+    for value in (0, 1, 3, q - 1, p, BIG):
+        one('q', value, 4, 0, '4 last')
+    for value in (0, 1, p - 1, p, p + g0):
+        one('g0', value, 5, 0, '5 first')
+    for value in (b'', label[:31], label + b'\0'):
+        one('label', value, 5, 0, '5 last', text='%d-bytes' % len(value))
+    for value in (b'', rankings[:-1], rankings + b'\1', rankings * 2):
+        one('rankings', value, 13, 0, '13.0', text='%d-bytes' % len(value))
+    for ranking, where in ((1, 'first'), (2, 'middle'), (3, 'last')):
+        at = 3 * (ranking - 1) + 1
+        for value in (0, 4, rankings[at + 1]):
+            bad = put(rankings, at, value)
+            one('rankings', bad, 13, ranking, '13 ' + where, text=bad.hex())
+    bad = put(put(rankings, 5, 2), 6, 0)
+    one('rankings', bad, 13, 2, '13 middle', text=bad.hex())
+    for few in (0, 1, job.needed - 1):
+        one('draws', draws[:few], 14, 0, '14.few', text='%d-draws' % few)
+    for place, where in ((0, 'first'), (job.needed // 2, 'middle'), (job.needed - 1, 'last')):
+        for value in (0, q, BIG):
+            one('draws', put(draws, place, value), 14, 0, '14 ' + where,
+                text='%d-at-%d' % (value, place))
+    for value, where in ((0, 'first'), (54, 'middle'), (job.length - 1, 'last')):
+        one('out_len', value, 15, 0, '15 ' + where)
+
+
+def weak_generators(cases, rng):
+    """5 where g1 comes out as 0, 1 or g0."""
+    job = Job(rng, 3, CYCLE, (23, 11, 2))
+    for want in (0, 1, 2):
+        label, counter = b'', 0
+        while len(label) != 32 or ref.make_g1(23, 11, 2, counter, label) != want:
+            label, counter = rng.randbytes(32), rng.randrange(256)
+        cases.add('small.g1=%d' % want, job.but(label=label, counter=counter), ('refused', 5, 0),
+                  '5 middle')
+
+
+def two_faults(cases, job):
+    """For every two refusals a job with both faults; the third, with all."""
+    rankings = job.parts['rankings']
+    faults = {3: {'n': 1}, 4: {'q': 4}, 5: {'label': bytes(31)}, 13: {'rankings': put(rankings, 4, 0)},
+              14: {'draws': job.parts['draws'][:-1]}, 15: {'out_len': job.length - 1}}
+    for first in faults:
+        for second in faults:
+            if first < second:
+                cases.add('three.faults-%d-and-%d' % (first, second),
+                          job.but(**faults[first], **faults[second]),
+                          ('refused', first, 2 if first == 13 else 0), 'two')
+    every = {part: value for fault in faults.values() for part, value in fault.items()}
+    cases.add('three.faults-all', job.but(**every), ('refused', 3, 0), 'two')
+    cases.add('three.faults-length-and-ranking', job.but(rankings=put(rankings, 4, 0) + b'\1'),
+              ('refused', 13, 0), 'two')
+
+
+def thousand(cases, rng):
+    job = Job(rng, 2, [[1, 2] if k % 2 else [2, 1] for k in range(1000)], HOUSE)
+    cases.add('thousand', job.but(), job.written(), 'K1000', 'ties')
+    for k, where in ((1, 'first'), (500, 'middle'), (1000, 'last')):
+        bad = put(job.parts['rankings'], 2 * k - 1, 3)
+        cases.add('thousand.bad-ranking-%d' % k, job.but(rankings=bad, draws=()),
+                  ('refused', 13, k), '13 ' + where)
+    cases.add('thousand.k=q=331', Job(rng, 2, [[2, 1]] * 331, (662 * 3 + 1, 331, None)).but(draws=()),
+              ('refused', 4, 0), '4 last')
+
+
+def written(cases, rng):
+    for n, lists, group, draws, counter, covers in (
+            (2, [[2, 1]], (7, 3, 2), 'random', 0, ['n', 'groups']),
+            (2, [[1, 2], [2, 1]], (7, 3, 4), 'tops', 255, ['n', 'groups', 'ties', 'draws']),
+            (3, CYCLE, (23, 11, 2), 'ones', None, ['n', 'groups', 'ties', 'draws']),
+            (3, CYCLE, HOUSE, 'tops', 255, ['n', 'groups', 'ties', 'draws']),
+            (3, [[3, 1, 2]], (2147483647, 7, None), 'edges', 0, ['n', 'groups']),
+            (3, [[1, 2, 3], [1, 3, 2], [2, 1, 3], [3, 2, 1]], HOUSE, 'random', 1, ['n', 'ties']),
+            (4, [[1, 2, 3, 4], [2, 1, 4, 3], [3, 4, 1, 2], [4, 3, 2, 1]], (11, 5, 4), 'random', None,
+             ['n', 'groups', 'ties']),
+            (4, [[4, 3, 2, 1], [3, 4, 1, 2], [4, 1, 2, 3], [1, 2, 3, 4], [2, 4, 3, 1]], HOUSE,
+             'random', None, ['n']),
+            (4, gen.rankings_of(rng, 4, 10, 'random'), (23, 11, 2), 'random', None, ['n', 'groups']),
+            (5, gen.rankings_of(rng, 5, 5, 'cycle'), (2147483647, 331, None), 'edges', None,
+             ['n', 'groups', 'ties']),
+            (5, [[5, 1, 2, 3, 4]] * 3, (53, 13, None), 'random', None, ['n', 'groups']),
+            (6, gen.rankings_of(rng, 6, 4, 'late'), HOUSE, 'random', None, ['n']),
+            (7, gen.rankings_of(rng, 7, 3, 'random'), (2147483647, 31, None), 'random', None, ['n']),
+            (8, [[8, 7, 6, 5, 4, 3, 2, 1]], HOUSE, 'random', None, ['n']),
+            (8, [list(range(1, 9)), list(range(8, 0, -1))], HOUSE, 'random', None,
+             ['n', 'n8', 'ties']),
+            (8, [[2, 1, 3, 4, 5, 6, 7, 8], [1, 2, 3, 4, 5, 6, 7, 8]], (47, 23, None), 'tops', None,
+             ['n', 'n8', 'groups', 'ties', 'draws'])):
+        job = Job(rng, n, lists, group, draws, counter)
+        assert 'n8' not in covers or job.rounds == 7
+        room = rng.choice((0, 1, 7, 100))
+        cases.add('written.n%d.k%d.q%d.rounds%d.%s' % (n, job.K, job.q, job.rounds, draws),
+                  job.but(out_len=job.length + room), job.written(), *covers,
+                  *['room'] * (room > 0))
+
+
+def jobs():
+    rng = random.Random(2)
+    cases = Cases(JOBS, JOB_PLACED)
+    two = Job(rng, 2, [[1, 2], [2, 1]], HOUSE)
+    three = Job(rng, 3, CYCLE, HOUSE)
+    assert (two.length, three.length, three.needed) == (526, 2534, 222)
+    cases.add('two', two.but(), two.written(), 'hand.526', 'n', 'ties')
+    cases.add('three', three.but(), three.written(), 'hand.2534', 'n', 'ties')
+    cases.add('three.room', three.but(out_len=70000), three.written(), 'room')
+    for spare in ((0,), (0, three.q, BIG)):
+        cases.add('three.%d-spare-draws' % len(spare),
+                  three.but(draws=three.parts['draws'] + spare), three.written(), 'spare')
+    refused(cases, 'three', three)
+    two_faults(cases, three)
+    weak_generators(cases, rng)
+    written(cases, rng)
+    thousand(cases, rng)
+    return cases

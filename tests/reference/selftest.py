@@ -1,0 +1,321 @@
+#!/usr/bin/env python3
+"""selftest.py [jobs] [seed]  - asserts 01's hand-tried cases, thousands of random jobs, every
+refusal number, and what the proof claims mean (by brute-force logarithms in p = 23)."""
+import itertools
+import os
+import random
+import subprocess
+import sys
+import time
+
+sys.dont_write_bytecode = True
+
+import boardref as ref
+import gen
+from boardref import Group, be
+from craft import Craft, layout, permutation_matrix, strike
+
+G = Group(23, 11, 2, 3, bytes(32))
+
+
+def hand_cases():
+    # "With p = 23, q = 11, g0 = 2, g1 = 3"
+    assert ref.is_element(23, 11, 2) and ref.is_element(23, 11, 3)
+    assert ref.pair_of(G, 5, 1) == (4, 13)
+    assert ref.pair_of(G, 5, 0) == (9, 13)
+    assert ref.pair_of(G, 7, 1) == (16, 2)
+    assert ref.product_of(G, [(4, 13), (16, 2)]) == (18, 3)
+    assert ref.pair_of(G, 1, 2) == (18, 3)                  # count 2, s 1
+    assert ref.statement_holds(G, (9, 13), 3, 16, 12, 8)
+    assert not ref.statement_holds(G, (9, 13), 3, 16, 12, 7)
+    # "Counts 8, 17, 16, 19 of 60: 1 goes out."
+    s = ref.first_standing(4, 60)
+    assert not ref.closes(s, [8, 17, 16, 19]) and ref.lowest_due(s, [8, 17, 16, 19]) == 1
+    # "Before round n-1, 30 of 60 does not close, 31 does."
+    assert not ref.closes(s, [30, 10, 10, 10])
+    assert ref.closes(s, [31, 10, 10, 9])
+    assert ref.closes(s._replace(m=3), [30, 10, 10, 10])    # round n-1 always closes
+    # "Ranking (4, 2, 1, 3) without 4, then 1, is (2, 3)."
+    V = permutation_matrix(4, [4, 2, 1, 3])
+    V = strike(V, 0)
+    V = strike(V, next(i for i, r in enumerate(V) if r[0] == 1))
+    assert V == permutation_matrix(4, [2, 3])[:2] and len(V) == 2
+    # "n = 2, one ballot each way: closes in round 1, winner 1."
+    assert ref.plain_count(2, [[1, 2], [2, 1]]) == (1, [[1, 1]], [], 1)
+    # "Empty board: refusal 1, record 0."
+    assert ref.check(b'') == ('refused', 1, 0)
+    # "n = 8 passes, 9 is 3. K = 1,000 passes, 1,001 is 3; K = 0 is 3. q = K is 4."
+    p, q, g0 = gen.HOUSE
+    label, counter = gen.label_counter(random.Random(1), p, q, g0)
+    g1 = ref.make_g1(p, q, g0, counter, label)
+
+    def head(n, K, p=p, q=q):
+        return ref.check(ref.header_bytes(n, K, p, q, g0, counter, g1, label))
+    assert head(8, 1) == ('refused', 1, 1) and head(9, 1) == ('refused', 3, 0)
+    assert head(2, 1000) == ('refused', 1, 1) and head(2, 1001) == ('refused', 3, 0)
+    assert head(2, 0) == ('refused', 3, 0)
+    r = random.Random(2)
+    g = gen.elements_g0(r, 23, 11)
+    lab, c = gen.label_counter(r, 23, 11, g)
+    h = ref.make_g1(23, 11, g, c, lab)
+    assert ref.check(ref.header_bytes(2, 11, 23, 11, g, c, h, lab)) == ('refused', 4, 0)
+    assert ref.check(ref.header_bytes(2, 10, 23, 11, g, c, h, lab)) == ('refused', 1, 1)
+    # "n = 2, K = 2: 526 bytes."  "2,534 bytes, 222 draws."
+    assert ref.board_length(2, 2, 1) == 526
+    assert ref.board_length(3, 3, 2) == 2534 and ref.draws_needed(3, 3, 2) == 222
+    draws = gen.make_draws(r, q, 222)
+    flat = [1, 2, 3, 2, 3, 1, 3, 1, 2]
+    job = [3, 3, p, q, g0, counter, label, flat]
+    answer = ref.write(*job, draws, 2534)
+    assert answer[0] == 'written' and len(answer[1]) == 2534 and answer[2:] == (2, [3], 1)
+    assert ref.write(*job, draws[:221], 2534) == ('refused', 14, 0)
+    assert ref.write(*job, draws, 2533) == ('refused', 15, 0)
+    text = 'accepted\nrounds 2\nout 3\nwinner 1\n'
+    assert ref.boardcheck(answer[1]) == text
+    program = [sys.executable, os.path.join(os.path.dirname(__file__), 'boardref.py')]
+    ran = subprocess.run(program, input=answer[1], capture_output=True)
+    assert ran.stdout == text.encode()
+    ran = subprocess.run(program, input=b'', capture_output=True)
+    assert ran.stdout == b'refused 1 0\n'
+    assert ref.boardcheck(bytes(65536)) == 'refused 2 0\n'
+    assert ref.boardcheck(bytes(65537)) == 'too long\n'
+    # one ranking more each way: 526 bytes
+    two = ref.write(2, 2, p, q, g0, counter, label, [1, 2, 2, 1],
+                    gen.make_draws(r, q, 2 * ref.ba_draws(2)), 526)
+    assert two[0] == 'written' and len(two[1]) == 526 and two[2:] == (1, [], 1)
+    # eight processes: one proof of eight branches, 58 statements in each
+    X = [[(1, 1)] * 8 for _ in range(8)]
+    claim = ref.shift_claim(G, X, X[:7], 3)
+    assert len(claim) == 8 and all(len(b) == 58 for b in claim)
+    # house group: no safe prime between it and 2^31
+    assert ref.is_prime(p) and ref.is_prime(q) and p == 2 * q + 1
+    assert not any(ref.is_prime(x) and ref.is_prime(x // 2) for x in range(p + 2, 2 ** 31, 2))
+    # board of 54 bytes cut, one byte more
+    assert ref.check(answer[1][:53]) == ('refused', 1, 0)
+    assert ref.check(answer[1][:54]) == ('refused', 1, 1)
+    assert ref.check(answer[1] + b'\0') == ('refused', 12, 9)
+
+
+def second_count(n, rankings):
+    """Another way to count: strike the process from every ranking."""
+    rankings = [list(r) for r in rankings]
+    processes, outs, all_counts = list(range(1, n + 1)), [], []
+    for m in itertools.count(1):
+        tops = [r[0] for r in rankings]
+        counts = [tops.count(i) for i in range(1, n + 1)]
+        all_counts.append(counts)
+        order = sorted(processes, key=lambda i: (counts[i - 1], -i))     # worst first
+        if counts[order[-1] - 1] > len(rankings) / 2 or len(processes) == 2:
+            return (m, all_counts, outs, order[-1])
+        processes.remove(order[0])
+        outs.append(order[0])
+        for r in rankings:
+            r.remove(order[0])
+
+
+def sheets_of(board, n, K, rounds):
+    """Rounds, outs and counts read straight off the sheets by their known places."""
+    outs, counts, place = [], [], ref.HD_LENGTH + K * ref.ba_length(n)
+    for m in range(1, rounds + 1):
+        if m > 1:
+            place += K * ref.sh_length(n, n - m + 1)
+        assert board[place:place + 2] == b'RT' and board[place + 2] == m
+        outs.append(board[place + 3])
+        counts.append([int.from_bytes(board[place + 4 + 6 * i:place + 6 + 6 * i], 'big')
+                       for i in range(n)])
+        place += ref.rt_length(n)
+    assert place == len(board)
+    return outs, counts
+
+
+def random_jobs(count, seed):
+    rng = random.Random(seed)
+    rounds_seen, refusals = {}, {}
+    for i in range(count):
+        n = rng.choice((2, 2, 3, 3, 3, 4, 4, 5)) if i % 60 else rng.randrange(6, 9)
+        K = rng.randrange(1, 9 if n < 4 else 7 if n < 6 else 4)
+        while True:
+            if rng.random() < 0.8:
+                p, q = rng.choice([f for f in gen.FIXED if f[0] < 3000])
+            else:
+                p, q = gen.random_pq(rng, rng.randrange(3, 12), 14)
+            if q > n and q > K:
+                break
+        g0 = gen.elements_g0(rng, p, q)
+        label, counter = gen.label_counter(rng, p, q, g0)
+        lists = gen.rankings_of(rng, n, K, rng.choice(gen.STYLES))
+        plain = ref.plain_count(n, lists)
+        assert plain == second_count(n, lists)
+        rounds, counts, outs, winner = plain
+        assert all(sum(c) == K for c in counts)
+        needed, length = ref.draws_needed(n, K, rounds), ref.board_length(n, K, rounds)
+        draws = gen.make_draws(rng, q, needed, rng.choice(('random', 'random', 'ones', 'tops',
+                                                           'edges')))
+        flat = [x for r in lists for x in r]
+        job = [n, K, p, q, g0, counter, label, flat]
+        answer = ref.write(*job, draws, length)
+        assert answer[0] == 'written' and answer[2:] == (rounds, outs, winner)
+        board = answer[1]
+        assert ref.check(board) == ('accepted', rounds, outs, winner)
+        assert sheets_of(board, n, K, rounds) == (outs + [0], counts)
+        rounds_seen[(n, rounds)] = rounds_seen.get((n, rounds), 0) + 1
+        if i % 10 == 0:
+            assert ref.write(*job, draws + [0, 2 ** 32 - 1], length + 5) == answer
+            assert ref.write(*job, draws[:-1], length) == ('refused', 14, 0)
+            assert ref.write(*job, draws, length - 1) == ('refused', 15, 0)
+            place = rng.randrange(needed)
+            for bad in (0, q):
+                assert ref.write(*job, draws[:place] + [bad] + draws[place + 1:],
+                                 length) == ('refused', 14, 0)
+            place = rng.randrange(len(flat))
+            worse = flat[:place] + [rng.choice((0, n + 1))] + flat[place + 1:]
+            assert ref.write(*job[:-1], worse, draws, length) == ('refused', 13, place // n + 1)
+            assert ref.check(board[:-1]) == ('refused', 1, rounds * (K + 1))
+            assert ref.check(board + b'\0') == ('refused', 12, rounds * (K + 1) + 1)
+        # a byte changed anywhere never leaves the board accepted (t1, t2 and label are hashed,
+        # all else is bound by an equation) except by luck in a tiny group
+        place = rng.randrange(len(board))
+        broken = board[:place] + bytes([board[place] ^ (1 << rng.randrange(8))]) + board[place + 1:]
+        verdict = ref.check(broken)
+        key = verdict[1] if verdict[0] == 'refused' else verdict[0]
+        refusals[key] = refusals.get(key, 0) + 1
+    return rounds_seen, refusals
+
+
+def every_refusal():
+    """Each number once, simplest case, over the 3 x 3 board."""
+    rng = random.Random(5)
+    p, q, g0 = gen.HOUSE
+    label, counter = gen.label_counter(rng, p, q, g0)
+    flat = [1, 2, 3, 2, 3, 1, 3, 1, 2]
+    draws = gen.make_draws(rng, q, 222)
+    board = ref.write(3, 3, p, q, g0, counter, label, flat, draws, 2534)[1]
+    F = layout(3, 3, 2)
+
+    def put(record, kind, value, last=False):
+        fields = [f for f in F if f[0] == record and f[2] == kind]
+        f = fields[-1 if last else 0]
+        return ref.check(board[:f[3]] + be(value, f[4]) + board[f[3] + f[4]:])
+
+    def old(record, kind, last=False):
+        fields = [f for f in F if f[0] == record and f[2] == kind]
+        f = fields[-1 if last else 0]
+        return int.from_bytes(board[f[3]:f[3] + f[4]], 'big')
+
+    hit = {
+        1: (ref.check(board[:-1]), 8),
+        2: (put(5, 'mark', 0x4241), 5),
+        3: (put(0, 'K', 0), 0),
+        4: (put(0, 'q', 3), 0),
+        5: (put(0, 'g1', 4), 0),
+        6: (put(7, 'number', 1), 7),
+        7: (put(8, 's', q, last=True), 8),
+        8: (put(7, 'r', (old(7, 'r', True) + 1) % q, last=True), 7),
+        9: (put(8, 'count', 4, last=True), 8),
+        10: (put(8, 'count', 1, last=True), 8),
+        11: (put(4, 'out', 2), 4),
+        12: (ref.check(board + b'RT'), 9),
+    }
+    for number, (answer, record) in hit.items():
+        assert answer == ('refused', number, record), (number, answer)
+    for number, answer in ((3, ref.write(9, 3, p, q, g0, counter, label, flat, draws, 2534)),
+                           (4, ref.write(3, 3, p, 3, g0, counter, label, flat, draws, 2534)),
+                           (5, ref.write(3, 3, p, q, 1, counter, label, flat, draws, 2534)),
+                           (13, ref.write(3, 3, p, q, g0, counter, label, flat[1:], draws, 2534)),
+                           (14, ref.write(3, 3, p, q, g0, counter, label, flat, [], 2534)),
+                           (15, ref.write(3, 3, p, q, g0, counter, label, flat, draws, 0))):
+        assert answer == ('refused', number, 0)
+    assert ref.write(3, 3, p, q, g0, counter, label, [1, 2, 3, 1, 2, 2, 3, 1, 2], draws,
+                     2534) == ('refused', 13, 2)
+    # the layout table agrees with what the reader does: every 4-byte proof field set to 2^32-1
+    # is refused with 7 at its record
+    for f in F:
+        if f[2] in ('b', 'Y', 't1', 't2', 'e', 'r', 's'):
+            bad = board[:f[3]] + b'\xff' * 4 + board[f[3] + 4:]
+            assert ref.check(bad) == ('refused', 7, f[0])
+
+
+def claims_mean_what_they_say(seed):
+    """In p = 23 every logarithm can be looked up: a statement (A, B) is true iff
+    log_g0 A = log_g1 B.  Compare with the lists that the matrices stand for."""
+    rng = random.Random(seed)
+    log0 = {pow(2, w, 23): w for w in range(11)}
+    log1 = {pow(3, w, 23): w for w in range(11)}
+
+    def true(statement):
+        return log0[statement[0]] == log1[statement[1]]
+
+    def some_branch(claim):
+        return [all(true(s) for s in branch) for branch in claim]
+
+    def matrix(V):
+        return [[ref.pair_of(G, rng.randrange(11), v % 11) for v in row] for row in V]
+
+    for v in range(11):
+        for x in range(11):
+            assert some_branch(ref.entry_claim(G, ref.pair_of(G, x, v))) == [v == 0, v == 1]
+    for _ in range(300):
+        row = [rng.choice((0, 0, 1, 2, -1)) for _ in range(rng.randrange(2, 6))]
+        assert some_branch(ref.line_claim(G, matrix([row])[0])) == [sum(row) % 11 == 1]
+    trues = 0
+    for _ in range(4000):
+        n = rng.randrange(2, 6)
+        size = rng.randrange(2, n + 1)                # rows of the matrix before
+        processes = rng.sample(range(1, n + 1), size)
+        a = rng.choice(processes) if rng.random() < 0.8 else rng.randrange(1, n + 1)
+        V = permutation_matrix(n, processes)
+        way = rng.randrange(5)
+        if way <= 1:
+            new = [i for i in processes if i != a][:size - 1]
+        elif way == 2:
+            new = [i for i in processes if i != rng.choice(processes)][:size - 1]
+        elif way == 3:
+            new = [i for i in processes if i != a][:size - 1]
+            i, j = rng.randrange(len(new)), rng.randrange(len(new))
+            new[i], new[j] = new[j], new[i]
+        else:
+            new = [rng.randrange(1, n + 1) for _ in range(size - 1)]
+        while len(new) < size - 1:
+            new.append(rng.randrange(1, n + 1))
+        W = permutation_matrix(n, new)
+        if rng.random() < 0.1:                        # one entry off
+            W[rng.randrange(len(W))][rng.randrange(n)] += rng.choice((1, -1, 2))
+        got = some_branch(ref.shift_claim(G, matrix(V), matrix(W), a))
+        want = [False] * size
+        if a in processes:
+            l = processes.index(a)
+            want[l] = W == strike(V, l)
+        assert got == want, (processes, a, new, got, want)
+        trues += any(want)
+    assert 500 < trues < 3500
+
+
+def craft_and_write_agree():
+    """Craft's honest boards are accepted too, and its proofs are read by the same rules."""
+    rng = random.Random(8)
+    for group in (gen.HOUSE, (23, 11, 2)):
+        label, counter = gen.label_counter(rng, *group)
+        c = Craft(3, 1, *group, counter, label, 3)
+        board = c.header() + c.ballot(1, permutation_matrix(3, [2, 1, 3])) + c.sheet(1, 0)
+        assert ref.check(board) == ('accepted', 1, [], 2)
+
+
+def main(count, seed):
+    start = time.time()
+    hand_cases()
+    print('hand-tried cases hold')
+    every_refusal()
+    print('refusals 1 to 12 (checker) and 3, 4, 5, 13, 14, 15 (writer) are hit')
+    claims_mean_what_they_say(seed)
+    print('claims are true for the right lists and for no others')
+    craft_and_write_agree()
+    rounds_seen, refusals = random_jobs(count, seed)
+    print('%d random jobs: all written, accepted, equal to the plain count' % count)
+    print('  (n, rounds):', dict(sorted(rounds_seen.items())))
+    print('  answers after one bit flip:', dict(sorted(refusals.items(), key=str)))
+    print('selftest passed in %.1f s' % (time.time() - start))
+
+
+if __name__ == '__main__':
+    main(int(sys.argv[1]) if len(sys.argv) > 1 else 3000,
+         int(sys.argv[2]) if len(sys.argv) > 2 else 3)
