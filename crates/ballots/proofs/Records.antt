@@ -1,9 +1,9 @@
 -- A ballot's record from its parts. Assumes nothing.
-use Prim.Native.Nat.{ℕ, zero, suc, _+_, _*_, _-_, _/_, _%_, _≤_, _<_}
-use mathlib.Core.Path.{_≡_, refl, sym, ap, ap₂, _∙_}
-use mathlib.Core.List.{List, [], _∷_, _++_, append-assoc}
+use Prim.Native.Nat.{ℕ, _+_, _*_, _-_, _<_}
+use mathlib.Core.Path.{_≡_}
+use mathlib.Core.List.{List, _++_}
 use native.Mathlib.Omega.{arith}
-use lib.ListN.{length, getD, length-append}
+use lib.ListN.{length, length-append}
 use Rattle.numbers.specs.Below.{blocks}
 use Rattle.numbers.proofs.Blocks.{length-blocks}
 use Rattle.rules.specs.Bytes.{bytes2}
@@ -13,7 +13,7 @@ use Rattle.rules.specs.Claims.{Matrix}
 use Rattle.jobs.specs.Board.{pairBytes}
 use Rattle.ballots.specs.Parts.{matrixOf, entryOf, entryIn, rowOf, columnOf, proofsOf, ballotOf}
 use Rattle.ballots.proofs.Pages.{grid, length-pairs}
-use Rattle.ballots.proofs.Entries.{length-entry, length-row, length-column}
+use Rattle.ballots.proofs.Entries.{length-entry, length-row}
 
 module _ (label : List ℕ) (g : Parameters) (n number : ℕ) (list : ℕ → ℕ) (draws : List ℕ) (from : ℕ) where
   abbrev M : Matrix

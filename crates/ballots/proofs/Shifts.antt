@@ -1,23 +1,23 @@
 -- A shift's record from its parts. Assumes nothing.
-use Prim.Native.Nat.{ℕ, zero, suc, _+_, _*_, _-_, _/_, _%_, _≤_, _<_}
-use mathlib.Core.Path.{_≡_, refl, sym, ap, _∙_}
-use mathlib.Core.List.{List, [], _∷_, _++_}
+use Prim.Native.Nat.{ℕ, _+_, _*_, _-_, _≤_}
+use mathlib.Core.Path.{_≡_}
+use mathlib.Core.List.{List, _++_}
 use native.Mathlib.Nat.{mul-le-mul-right}
 use native.Mathlib.Omega.{arith}
-use lib.ListN.{length, getD, length-append}
+use lib.ListN.{length, getD}
 use Rattle.sha256.specs.Message.{sha256}
 use Rattle.group.specs.Elements.{Parameters}
 use Rattle.rules.specs.Bytes.{bytes2}
 use Rattle.rules.specs.Records.{SH}
-use Rattle.rules.specs.Claims.{Matrix, matrixAt, shiftClaim}
+use Rattle.rules.specs.Claims.{matrixAt}
 use Rattle.jobs.specs.Board.{pairBytes}
 use Rattle.statements.specs.declared.claims.Claim.the-variants.{Shift as Shifted}
 use Rattle.statements.specs.Claims.{claimOf, Within, InverseTable}
 use Rattle.whole.proofs.Complete.Matrices.{SameMatrix, shift-same}
-use Rattle.proving.specs.Plans.{Spread, Planned, proofOf}
+use Rattle.proving.specs.Plans.{Planned, proofOf}
 use Rattle.proving.proofs.Same.{proof-same}
 use Rattle.ballots.specs.declared.shift.Shift.{Shift}
-use Rattle.ballots.specs.Parts.{matrixOf, Witnessed, Shifting, oldMatrix, newMatrix, shiftProofOf, shiftOf}
+use Rattle.ballots.specs.Parts.{Witnessed, Shifting, oldMatrix, newMatrix, shiftProofOf, shiftOf}
 use Rattle.ballots.proofs.Pages.{length-pairs}
 use Rattle.ballots.proofs.Entries.{planOf}
 

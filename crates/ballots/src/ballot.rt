@@ -6,7 +6,7 @@ use proving::Plan;
 use statements::Setup;
 use statements::claims::Claim;
 ghost use mathlib.Core.Path.{_≡_};
-ghost use Prim.Native.Nat.{ℕ, _+_, _*_, _/_, _%_, _^_, _≤_, _<_};
+ghost use Prim.Native.Nat.{_+_, _*_, _/_, _%_, _^_, _≤_, _<_};
 ghost use lib.ListN.{length, getD};
 ghost use Rattle.numbers.specs.Below.{blocks};
 ghost use Rattle.group.specs.Elements.{parametersOf};

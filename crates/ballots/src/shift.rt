@@ -7,7 +7,7 @@ use statements::Setup;
 use statements::claims;
 use statements::claims::Claim;
 ghost use mathlib.Core.Path.{_≡_};
-ghost use Prim.Native.Nat.{ℕ, _+_, _*_, _≤_, _<_};
+ghost use Prim.Native.Nat.{_+_, _*_, _≤_};
 ghost use lib.ListN.{length};
 ghost use Rattle.group.specs.Elements.{parametersOf};
 ghost use Rattle.statements.specs.Values.{Ready};

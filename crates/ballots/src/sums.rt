@@ -2,7 +2,7 @@
 use group::Exponent;
 use statements::claims;
 ghost use mathlib.Core.Path.{_≡_};
-ghost use Prim.Native.Nat.{ℕ, _+_, _-_, _*_, _%_, _^_, _≤_, _<_};
+ghost use Prim.Native.Nat.{_+_, _-_, _*_, _%_, _^_, _≤_, _<_};
 ghost use lib.ListN.{length};
 ghost use Rattle.proving.specs.Plans.{Spread};
 ghost use Rattle.ballots.specs.Parts.{sumBut, Witnessed};

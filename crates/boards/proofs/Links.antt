@@ -1,6 +1,6 @@
 -- The records that the code writes are those of the rules. Assumes nothing.
-use Prim.Native.Nat.{ℕ, zero, suc, _+_, _*_, _-_, _%_, _≤_, _<_}
-use mathlib.Core.Path.{_≡_, refl, sym, ap, ap₂, fun-ext, _∙_}
+use Prim.Native.Nat.{ℕ, zero, suc, _+_, _*_, _-_, _%_, _<_}
+use mathlib.Core.Path.{_≡_, refl, ap, ap₂, fun-ext, _∙_}
 use mathlib.Core.List.{List, [], _∷_, _++_, append-assoc}
 use native.Mathlib.Omega.{arith}
 use lib.ListN.{length, getD, length-append}
@@ -21,7 +21,7 @@ use Rattle.ballots.specs.declared.shift.Shift.{Shift}
 use Rattle.ballots.specs.Parts.{matrixOf, entryOf, rowOf, columnOf, proofsOf, ballotOf, witnessOf, shiftProofOf, shiftOf}
 use Rattle.ballots.proofs.Pages.{length-pairs}
 use Rattle.plain.proofs.Lists.{padded-at}
-use Rattle.boards.specs.Parts.{sheetIn, rowIn}
+use Rattle.boards.specs.Parts.{sheetIn}
 
 module _ (job : Job) (g : Parameters) (k : ℕ) where
   same-ballot : ballotOf (job .label) g (job .n) (k + 1) (λ i. getD (standing [] (rankingOf job k)) i 0) (job .draws) (drawsAt (job .n) (job .K) 0 k) ≡ ballotBytes sha256 job g k

@@ -1,7 +1,7 @@
 -- One round of a board after another. Assumes nothing.
 use Prim.Native.Nat.{ℕ, zero, suc, _+_, _*_, _-_, _≤_, _<_}
 use mathlib.Core.Path.{_≡_, refl, sym, ap, _∙_}
-use mathlib.Core.List.{List, [], _∷_, _++_}
+use mathlib.Core.List.{List, [], _++_}
 use native.Mathlib.Nat.{zero-add, suc-add}
 use native.Mathlib.Numerals.{add-one}
 use native.Mathlib.Omega.{arith}
@@ -9,12 +9,12 @@ use borrow.Rule.Slice.PartMut.{midOf, putMid}
 use lib.ListN.{length, getD, take, length-append}
 use lib.Seq.{getD-take}
 use Rattle.numbers.specs.Below.{blocks}
-use Rattle.numbers.proofs.Blocks.{blocks-same, length-blocks}
+use Rattle.numbers.proofs.Blocks.{length-blocks}
 use Rattle.group.specs.Elements.{Parameters}
 use Rattle.rules.specs.Records.{recordLength, sheetLength, roundAt}
 use Rattle.rules.specs.Count.{countsOf, table}
 use Rattle.jobs.specs.Job as J
-use Rattle.jobs.specs.Job.{rankingOf, recordDraws, roundDraws, standing, placeOf}
+use Rattle.jobs.specs.Job.{rankingOf, recordDraws, roundDraws}
 use Rattle.jobs.specs.Board.{recordBytes, sheetBytes}
 use Rattle.output.specs.Written.{written}
 use Rattle.output.proofs.Laws.{more, blocks-more}
@@ -23,7 +23,6 @@ use Rattle.count.specs.State.{listOf}
 use Rattle.boards.specs.declared.records.Turn.{Turn}
 use Rattle.boards.specs.Parts.{Later, Turned, Told, Able, recordsOf, roundOf, sheetIn}
 use Rattle.boards.proofs.Links.{length-record, length-sheet, sheet-is}
-use Rattle.boards.proofs.Spans.{round-more}
 
 -- rounds further on start further on
 pub draws-up : (n K m d : ℕ) → roundDraws n K m ≤ roundDraws n K (d + m)

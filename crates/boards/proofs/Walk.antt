@@ -1,13 +1,12 @@
 -- The rounds of a board in step with the plain count: the board is its header and then one round after another, each told by the order of
 -- going out; each process that goes out was still in, and every ranking has lost one more.
 use Prim.Native.Nat.{ℕ, zero, suc, _+_, _-_, _≤_, _<_}
-use mathlib.Core.Path.{_≡_, refl, sym, ap, ap₂, _∙_}
-use mathlib.Core.Bool.{Bool, true, false, cond}
+use mathlib.Core.Path.{_≡_, refl, sym, ap, _∙_}
+use mathlib.Core.Bool.{Bool, true, false}
 use mathlib.Core.List.{List, [], _∷_, _++_, append-assoc, append-nil}
 use native.Mathlib.Nat.{not-suc-le-zero, le-of-suc-le-suc, sub-zero}
 use native.Mathlib.Omega.{arith}
 use borrow.Author.Tests.{eqb-false}
-use lib.Dec.{eqb}
 use lib.ListN.{length, getD, take, replicate, length-append}
 use lib.Seq.{take-at, getD-at}
 use Rattle.numbers.specs.Below.{blocks}

@@ -8,7 +8,7 @@ use plain::rankings;
 use plain::rounds;
 use statements::Setup;
 ghost use mathlib.Core.Path.{_≡_};
-ghost use Prim.Native.Nat.{ℕ, suc, _+_, _*_, _≤_, _<_};
+ghost use Prim.Native.Nat.{_+_, _*_, _≤_, _<_};
 ghost use lib.ListN.{length};
 ghost use Rattle.numbers.specs.Below.{blocks};
 ghost use Rattle.sha256.specs.Message.{sha256};

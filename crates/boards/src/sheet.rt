@@ -3,7 +3,7 @@ use ballots::sums;
 use count::Sheet;
 ghost use mathlib.Core.Path.{_≡_};
 ghost use mathlib.Core.List.{_++_};
-ghost use Prim.Native.Nat.{ℕ, _+_, _-_, _*_, _%_, _^_, _≤_, _<_};
+ghost use Prim.Native.Nat.{_+_, _-_, _*_, _%_, _^_, _≤_, _<_};
 ghost use lib.ListN.{length, getD};
 ghost use Rattle.numbers.specs.Below.{sumBelow};
 ghost use Rattle.rules.specs.Bytes.{bytes2, bytes4};

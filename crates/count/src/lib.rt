@@ -1,7 +1,6 @@
 // The standing count by value: each sheet takes it and hands back the next.
 ghost use mathlib.Core.Path.{_≡_};
 ghost use Prim.Native.Nat.{ℕ, _+_, _*_, _≤_, _<_};
-ghost use lib.ListN.{take};
 ghost use Rattle.rules.specs.Count.{member, start, next, leaves, wins, closes, majority};
 ghost use Rattle.count.specs.State.{countsOn, listOf, standingOf, Listed, Kept, lower, higher, passes};
 

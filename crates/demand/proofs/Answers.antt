@@ -1,9 +1,9 @@
 -- From the contracts of `check` and `write` and the whole-board theorem to the demand.
-use Prim.Native.Nat.{ℕ, _-_, _≤_}
-use mathlib.Core.Path.{_≡_, sym, ap, subst, _∙_}
+use Prim.Native.Nat.{ℕ, _-_}
+use mathlib.Core.Path.{_≡_, sym, subst, _∙_}
 use mathlib.Core.List.{List, _++_}
 use native.Mathlib.Omega.{arith}
-use lib.ListN.{length, take, drop, length-append}
+use lib.ListN.{length, take, drop}
 use lib.Seq.{take-at, drop-at}
 use Rattle.sha256.specs.Message.{sha256}
 use Rattle.rules.specs.Check.{checkBoard}
@@ -11,15 +11,15 @@ use Rattle.rules.specs.Answers.{verdictOf}
 use Rattle.rules.specs.declared.Checked.{Checked}
 use Rattle.jobs.specs.Job.{Job, plainResult, boardLength}
 use Rattle.jobs.specs.Board.{board}
-use Rattle.jobs.specs.Write.{boardWritten, jobRefused, writeOutcome, writeOutput}
+use Rattle.jobs.specs.Write.{boardWritten, writeOutcome, writeOutput}
 use Rattle.jobs.specs.Replies.{replyOf, outcomeOf}
 use Rattle.jobs.specs.declared.Reply.{Reply}
 use Rattle.jobs.specs.declared.Reply.the-variants as W
 use Rattle.jobs.specs.declared.Written.{Written}
-use Rattle.whole.specs.ThirdDemand.{Valid, IsWritten}
+use Rattle.whole.specs.ThirdDemand.{IsWritten}
 use Rattle.whole.proofs.ThirdDemand.{third-demand}
 use Rattle.whole.proofs.Complete.FineJob.{no-refusal}
-use Rattle.demand.specs.Demand.{AcceptedIsPlain, ValidIsWritten, WrittenIsPlain}
+use Rattle.demand.specs.Demand.{AcceptedIsPlain, ValidIsWritten}
 
 pub accepted-is-plain : (s : List ℕ) (r : Checked) → verdictOf r ≡ checkBoard sha256 s → AcceptedIsPlain s r
 accepted-is-plain s r e rounds winner rankings a o =

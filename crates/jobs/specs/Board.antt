@@ -12,7 +12,7 @@ use Rattle.rules.specs.Group.{paired}
 use Rattle.rules.specs.Records.{HD, BA, SH, RT}
 use Rattle.rules.specs.Proofs.{Statement}
 use Rattle.rules.specs.Claims.{Matrix, entryClaim, rowClaim, columnClaim, shiftClaim, source}
-use Rattle.rules.specs.Count.{Standing, start, next, leaves, closes, lowest, table, countsOf}
+use Rattle.rules.specs.Count.{Standing, start, next, leaves, closes, table, countsOf}
 use Rattle.jobs.specs.Job.{Job, groupOf, rankingOf, draw, secret, openedTo, standing, placeOf, drawsAt}
 use Rattle.jobs.specs.Prover.{Prover, proofBytes}
 

@@ -1,13 +1,13 @@
 -- Laws of an output whose front is written, for functions that write into its unwritten rest or into a place within what is written.
 -- Assumes nothing.
-use Prim.Native.Nat.{ℕ, zero, suc, _+_, _*_, _-_, _≤_, _<_}
+use Prim.Native.Nat.{ℕ, suc, _+_, _*_, _-_, _≤_, _<_}
 use mathlib.Core.Path.{_≡_, refl, _∙_, sym, ap}
 use mathlib.Core.List.{List, [], _∷_, _++_, append-assoc, append-nil}
 use native.Mathlib.Nat.{le-refl, zero-add}
 use native.Mathlib.Numerals.{add-one}
 use native.Mathlib.Omega.{arith}
 use lib.ListN.{length, getD, set, take, drop, length-append, length-drop, length-take, take-append-drop, drop-of-length-le}
-use lib.Seq.{sets, sets-eq, take-suc, drop-cons, set-at, append-snoc, take-at, drop-at, take-all, drop-drop, take-append-le, drop-append-le, length-take-le, take-add}
+use lib.Seq.{sets, sets-eq, take-suc, drop-cons, set-at, append-snoc, take-at, drop-at, take-all, drop-drop, length-take-le}
 use borrow.Rule.Slice.PartMut.{midOf, putMid}
 use Rattle.numbers.specs.Below.{blocks}
 use Rattle.numbers.proofs.Blocks.{length-blocks}

@@ -1,8 +1,8 @@
 -- The plain count, round by round, as the code's standing count goes. Assumes nothing.
 use Prim.Native.Nat.{ℕ, zero, suc, _+_, _*_, _-_, _≤_, _<_}
 use mathlib.Core.Path.{_≡_, refl, sym, ap, _∙_}
-use mathlib.Core.Bool.{Bool, true, false, cond, _||_, true≢false}
-use mathlib.Core.List.{List, [], _∷_, _++_, map}
+use mathlib.Core.Bool.{Bool, true, false, _||_, true≢false}
+use mathlib.Core.List.{List}
 use mathlib.Core.Logic.{⊎-elim}
 use native.Mathlib.Nat.{mul-le-mul-right, eq-or-lt-of-le}
 use native.Mathlib.Numerals.{add-one}
@@ -11,9 +11,8 @@ use borrow.Author.Tests.{eq-eqb}
 use lib.Dec.{eqb}
 use lib.ListN.{length, getD, set, take, replicate, length-append, length-replicate, take-append-drop}
 use lib.Seq.{length-take-le, take-suc, take-at, drop-at}
-use Rattle.rules.specs.Bytes.{part}
 use Rattle.rules.specs.Records.{roundAt, recordLength, sheetLength}
-use Rattle.rules.specs.Count.{Standing, Result, start, next, ended, closes, majority, countsOf, countFrom, plainCount, table}
+use Rattle.rules.specs.Count.{Standing, next, ended, closes, majority, countsOf, countFrom, plainCount, table}
 use Rattle.jobs.specs.Job.{roundDraws, recordDraws}
 use Rattle.count.specs.declared.Count.{Count}
 use Rattle.count.specs.declared.Gone.{Gone}

@@ -1,21 +1,17 @@
 -- Those still in, one by one; a place found. Assumes nothing.
-use Prim.Native.Nat.{ℕ, zero, suc, _+_, _*_, _-_, _%_, _≤_, _<_}
-use mathlib.Core.Path.{_≡_, refl, sym, ap, ap₂, _∙_}
-use mathlib.Core.Bool.{Bool, true, false, cond}
-use mathlib.Core.List.{List, [], _∷_, _++_, append-assoc, append-nil}
-use native.Mathlib.Nat.{add-zero, add-suc}
+use Prim.Native.Nat.{ℕ, zero, suc, _+_, _-_, _≤_, _<_}
+use mathlib.Core.Path.{_≡_, refl, sym, ap, _∙_}
+use mathlib.Core.Bool.{true, false}
+use mathlib.Core.List.{List, [], _∷_, _++_, append-nil}
+use native.Mathlib.Nat.{add-zero}
 use native.Mathlib.Numerals.{add-one}
 use native.Mathlib.Omega.{arith}
 use borrow.Author.Tests.{eq-eqb, ne-eqb}
-use borrow.Rule.Slice.PartMut.{midOf, putMid}
 use lib.Dec.{eqb}
 use lib.ListN.{length, getD, set, take, drop, replicate, length-append, length-take, length-drop, drop-of-length-le}
-use lib.Seq.{take-suc, drop-cons, set-at, append-snoc, getD-drop, length-take-le}
-use Rattle.numbers.specs.Below.{blocks, sumBelow}
-use Rattle.numbers.proofs.Blocks.{length-blocks}
-use Rattle.numbers.proofs.Sums.{sum-same}
+use lib.Seq.{take-suc, drop-cons, set-at, append-snoc, getD-drop}
 use Rattle.numbers.proofs.Tests.{by-cases}
-use Rattle.rules.specs.Bytes.{bytes2, bytes4, part}
+use Rattle.rules.specs.Bytes.{part}
 use Rattle.rules.specs.Count.{member}
 use Rattle.jobs.specs.Job.{standing, placeOf}
 use Rattle.rules.specs.Answers.{padded}

@@ -1,7 +1,7 @@
 // One ranking among many: the n bytes at a place.
 use count::Gone;
 ghost use mathlib.Core.Path.{_≡_};
-ghost use Prim.Native.Nat.{ℕ, _+_, _*_, _≤_, _<_};
+ghost use Prim.Native.Nat.{_+_, _*_, _≤_, _<_};
 ghost use lib.ListN.{length, take};
 ghost use Rattle.rules.specs.Bytes.{part};
 ghost use Rattle.rules.specs.Answers.{padded};

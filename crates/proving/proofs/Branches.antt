@@ -1,8 +1,7 @@
 -- A branch grows by a statement. Assumes nothing.
-use Prim.Native.Nat.{ℕ, zero, suc, _+_, _*_, _-_, _≤_, _<_}
-use mathlib.Core.Path.{_≡_, refl, sym, ap, subst, _∙_}
-use mathlib.Core.List.{List, [], _∷_, _++_, append-assoc, append-nil}
-use native.Mathlib.Numerals.{add-one}
+use Prim.Native.Nat.{ℕ, _+_, _*_, _-_, _≤_, _<_}
+use mathlib.Core.Path.{_≡_, refl, sym, _∙_}
+use mathlib.Core.List.{List, _++_, append-assoc, append-nil}
 use native.Mathlib.Omega.{arith}
 use lib.ListN.{length, length-append, length-take, length-drop}
 use borrow.Rule.Slice.PartMut.{midOf, putMid}
@@ -15,7 +14,7 @@ use Rattle.group.specs.Elements.{Parameters}
 use Rattle.rules.specs.Proofs.{Statement}
 use Rattle.output.specs.Written.{written}
 use Rattle.output.proofs.Laws.{more, skip, blocks-more}
-use Rattle.proving.specs.Plans.{Stated, Branched, branchOf, truePair, falsePair}
+use Rattle.proving.specs.Plans.{Stated, branchOf, truePair, falsePair}
 
 pub length-true : (g : Parameters) (x : ℕ) → length (truePair g x) ≡ 8
 unfolding truePair

@@ -1,17 +1,17 @@
 -- The proof of the rules, from the branches that are held and the known branch's answers. Assumes nothing.
-use Prim.Native.Nat.{ℕ, zero, suc, _+_, _*_, _-_, _%_, _≤_, _<_}
-use mathlib.Core.Path.{_≡_, refl, sym, ap, ap₂, subst, _∙_}
-use mathlib.Core.Bool.{Bool, true, false, cond}
-use mathlib.Core.List.{List, [], _∷_, _++_, append-assoc, append-nil}
+use Prim.Native.Nat.{ℕ, zero, suc, _+_, _*_, _-_, _%_, _<_}
+use mathlib.Core.Path.{_≡_, refl, sym, ap, ap₂, _∙_}
+use mathlib.Core.Bool.{true}
+use mathlib.Core.List.{List, _++_, append-assoc, append-nil}
 use native.Mathlib.Nat.{add-zero, add-suc}
 use native.Mathlib.Numerals.{add-one}
 use native.Mathlib.Omega.{arith}
-use borrow.Author.Tests.{lt-ltb, le-ltb, eq-eqb, ne-eqb, eqb-true, eqb-false}
+use borrow.Author.Tests.{eq-eqb, ne-eqb, eqb-true}
 use borrow.Rule.Slice.PartMut.{midOf, putMid}
-use lib.Dec.{eqb, ltb}
-use lib.ListN.{length, getD, take, drop, length-append, length-drop, length-take}
-use lib.Seq.{drop-at, take-append-le, drop-append-le, take-at, length-take-le}
-use Rattle.numbers.specs.Below.{sumBelow, blocks}
+use lib.Dec.{eqb}
+use lib.ListN.{length}
+use lib.Seq.{drop-at, take-at}
+use Rattle.numbers.specs.Below.{blocks}
 use Rattle.numbers.proofs.Blocks.{blocks-same, length-blocks}
 use Rattle.numbers.proofs.Tests.{by-cases}
 use Rattle.sha256.specs.declared.Hasher.{Hasher}
@@ -23,7 +23,7 @@ use Rattle.jobs.specs.Prover.{Prover, committed, commitment, challengeOf, respo
 use Rattle.output.specs.Written.{written}
 use Rattle.output.proofs.Laws.{more, patch, rest-from, blocks-more}
 use Rattle.proving.specs.declared.Plan.{Plan}
-use Rattle.proving.specs.Plans.{Branched, branchOf, heldE, heldTs, heldRs, againstOf, drawsOf, truePair, falsePair, trueTs, trueRs, falseTs, falseRs, answers, proverOf, proofOf}
+use Rattle.proving.specs.Plans.{Branched, branchOf, heldE, heldTs, heldRs, againstOf, drawsOf, truePair, falsePair, answers, proverOf, proofOf}
 use Rattle.proving.proofs.Branches.{length-branch, length-true, length-false}
 
 -- a run of blocks around its k-th

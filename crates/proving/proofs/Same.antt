@@ -1,21 +1,20 @@
 -- A proof depends on its claims outside the known branch alone, and on its witnesses modulo q; and how long it is. Assumes nothing.
-use Prim.Native.Nat.{ℕ, zero, suc, _+_, _*_, _-_, _%_, _≤_, _<_}
-use mathlib.Core.Path.{_≡_, refl, sym, ap, ap₂, _∙_}
-use mathlib.Core.Bool.{Bool, true, false, cond}
+use Prim.Native.Nat.{ℕ, _+_, _*_, _-_, _%_, _<_}
+use mathlib.Core.Path.{_≡_, refl, ap, ap₂}
 use mathlib.Core.List.{List, _++_}
 use native.Mathlib.Nat.{add-mod-mod}
 use native.Mathlib.Omega.{arith}
-use borrow.Author.Tests.{eqb-true, eqb-false}
+use borrow.Author.Tests.{eqb-false}
 use lib.Dec.{eqb}
 use lib.ListN.{length, length-append}
-use Rattle.numbers.specs.Below.{sumBelow, blocks}
+use Rattle.numbers.specs.Below.{blocks}
 use Rattle.numbers.proofs.Blocks.{blocks-same, length-blocks}
 use Rattle.numbers.proofs.Tests.{by-cases}
 use Rattle.numbers.proofs.Residues.{mul-mod-right}
 use Rattle.group.specs.Elements.{Parameters}
 use Rattle.rules.specs.Bytes.{bytes4}
 use Rattle.rules.specs.Proofs.{Statement}
-use Rattle.jobs.specs.Prover.{Prover, committed, commitment, challengeOf, responseOf, nonce, wholeChallenge, trueChallenge, proofBytes}
+use Rattle.jobs.specs.Prover.{Prover, committed, commitment, responseOf, wholeChallenge, trueChallenge, proofBytes}
 
 pub length-proof : (hash : List ℕ → List ℕ) (label : List ℕ) (g : Parameters) (pr : Prover) →
     length (proofBytes g pr hash label) ≡ pr .branches * (4 + 12 * pr .statements)

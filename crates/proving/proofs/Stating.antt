@@ -6,7 +6,7 @@ use Rattle.sha256.specs.declared.Hasher.{Hasher}
 use Rattle.rules.specs.Bytes.{bytes4}
 use Rattle.group.specs.Elements.{Parameters}
 use Rattle.rules.specs.Proofs.{Statement}
-use Rattle.group.specs.Arithmetic.{mulMod, powMod}
+use Rattle.group.specs.Arithmetic.{powMod}
 use Rattle.proving.specs.Plans.{Stated, truePair, falsePair, falseSide}
 
 module _ (r : ℕ) (o o' : List ℕ) (h k : Hasher) where

@@ -13,7 +13,7 @@ use Rattle.rules.specs.Group.{paired, sizes, orders, generators}
 use Rattle.rules.specs.Proofs.{proofFields, proofHolds}
 use Rattle.rules.specs.Records.{HD, BA, SH, RT, hasMark, headerLength, recordLength, sheetLength, recordAt, recordNumber}
 use Rattle.rules.specs.Claims.{Matrix, matrixAt, entryClaim, rowClaim, columnClaim, shiftClaim}
-use Rattle.rules.specs.Count.{Standing, start, next, leaves, wins, closes, lowest, highest, table}
+use Rattle.rules.specs.Count.{Standing, start, next, leaves, wins, closes, table}
 
 -- "accepted with rounds, order and winner", or "a refusal is its number and the record's number"
 pub data Verdict : Type 0 where

@@ -1,30 +1,28 @@
 -- The outcome of a job, test by test, and what its output then holds. Assumes nothing.
-use Prim.Native.Nat.{ℕ, zero, suc, _+_, _*_, _-_, _≤_, _<_, _^_}
+use Prim.Native.Nat.{ℕ, zero, suc, _+_, _*_, _-_, _≤_, _<_}
 use mathlib.Core.Path.{_≡_, refl, sym, ap, _∙_}
-use mathlib.Core.Bool.{Bool, true, false, cond, _&&_, and-eq-true-iff}
-use mathlib.Core.List.{List, [], _∷_, _++_}
+use mathlib.Core.Bool.{Bool, true, false, _&&_, and-eq-true-iff}
+use mathlib.Core.List.{List, _++_}
 use native.Mathlib.Omega.{arith}
-use borrow.Author.Tests.{eq-eqb, ne-eqb, eqb-true, le-leb, lt-leb, leb-true, eqb-false}
-use lib.Dec.{leb, ltb, eqb}
-use lib.ListN.{length, getD, take, drop, replicate, length-append}
+use borrow.Author.Tests.{eq-eqb, ne-eqb, eqb-true, lt-leb, leb-true, eqb-false}
+use lib.Dec.{leb, eqb}
+use lib.ListN.{length, take, drop, replicate, length-append}
 use Rattle.numbers.specs.Below.{allBelow, blocks}
 use Rattle.numbers.proofs.Tests.{by-cases}
 use Rattle.sha256.specs.Message.{sha256}
 use Rattle.group.specs.Elements.{Parameters}
 use Rattle.rules.specs.Answers.{padded}
-use Rattle.rules.specs.Group.{sizes, orders, generators}
-use Rattle.rules.specs.Records.{roundAt}
-use Rattle.rules.specs.Count.{isRanking, start}
+use Rattle.rules.specs.Group.{sizes, orders}
+use Rattle.rules.specs.Count.{isRanking}
 use Rattle.rules.specs.Check.{firstFault}
-use Rattle.jobs.specs.Job.{Job, groupOf, rankingOf, draw, needed, boardLength, plainResult, roundDraws}
-use Rattle.jobs.specs.Board.{headerBytes, roundsFrom, boardBytes, board}
-use Rattle.jobs.specs.Write.{labelGood, rankingsGood, drawsGood, jobFault, firstBad, which, Outcome, boardWritten, jobRefused, writeOutcome, writeOutput}
+use Rattle.jobs.specs.Job.{Job, groupOf, rankingOf, needed, boardLength, plainResult, roundDraws}
+use Rattle.jobs.specs.Board.{headerBytes, boardBytes, board}
+use Rattle.jobs.specs.Write.{labelGood, rankingsGood, drawsGood, jobFault, firstBad, which, boardWritten, jobRefused, writeOutcome, writeOutput}
 use Rattle.jobs.specs.Replies.{outcomeOf, orderWritten}
 use Rattle.jobs.specs.declared.Written.{Written}
 use Rattle.whole.specs.ThirdDemand.{Valid}
 use Rattle.whole.proofs.Orders.{orders-of-test}
-use Rattle.whole.proofs.Complete.FineJob.{fine, no-refusal, good-group}
-use Rattle.whole.proofs.Complete.Leaving.{In}
+use Rattle.whole.proofs.Complete.FineJob.{fine, good-group}
 use Rattle.output.specs.Written.{written}
 use Rattle.boards.specs.Parts.{Able, roundOf}
 use Rattle.boards.proofs.Walk.{rounds-are, few-rounds, order-long, goes-out, left, struck-below}

@@ -1,11 +1,11 @@
-use Prim.Native.Nat.{ℕ, _+_, _-_, _*_, _≤_, _<_}
-use mathlib.Core.Path.{_≡_, refl, sym, _∙_}
+use Prim.Native.Nat.{_-_, _*_, _≤_, _<_}
+use mathlib.Core.Path.{_≡_, refl, _∙_}
 use mathlib.Core.Logic.{⊎-elim}
 use native.Mathlib.Omega.{arith}
-use lib.ListN.{length, getD}
+use lib.ListN.{getD}
 use denote.Ref.{now}
 use Rattle.numbers.specs.Below.{sumBelow}
-use Rattle.proving.specs.Plans.{againstOf, drawsOf}
+use Rattle.proving.specs.Plans.{againstOf}
 use Rattle.proving.proofs.Draws.{false-fits, false-low, against-true, against-false}
 use borrow.Author.Needs.{needs}
 use Rattle.proving.proofs.against.Statement.{statement}

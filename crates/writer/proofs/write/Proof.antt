@@ -1,11 +1,11 @@
-use Prim.Native.Nat.{ℕ, suc, _+_, _*_, _-_, _≤_, _<_}
+use Prim.Native.Nat.{ℕ, _+_, _*_, _-_, _≤_}
 use mathlib.Core.Path.{_≡_, refl, sym, ap, subst, _∙_}
-use mathlib.Core.Bool.{Bool, true, false, _&&_}
-use mathlib.Core.List.{List, _++_}
+use mathlib.Core.Bool.{true, _&&_}
+use mathlib.Core.List.{_++_}
 use native.Mathlib.Omega.{arith}
 use borrow.Author.Tests.{not-true, not-false, eq-eqb, ne-eqb}
 use lib.Dec.{eqb, leb, ltb}
-use lib.ListN.{length, getD, take}
+use lib.ListN.{length, getD}
 use denote.Ref.{now}
 use Rattle.numbers.specs.Below.{allBelow, blocks}
 use Rattle.sha256.specs.Message.{sha256}
@@ -14,7 +14,7 @@ use Rattle.rules.specs.Group.{sizes, orders, generators}
 use Rattle.jobs.specs.Job as J
 use Rattle.jobs.specs.Job.{groupOf, needed, boardLength, plainResult, roundDraws}
 use Rattle.jobs.specs.Board.{headerBytes}
-use Rattle.jobs.specs.Write.{labelGood, rankingsGood, drawsGood, firstBad, boardWritten, Outcome}
+use Rattle.jobs.specs.Write.{labelGood, rankingsGood, drawsGood, firstBad, boardWritten}
 use Rattle.jobs.specs.declared.Reply.the-variants as W
 use Rattle.whole.specs.ThirdDemand.{Valid}
 use Rattle.whole.proofs.Complete.FineJob.{fine, no-refusal}

@@ -1,12 +1,10 @@
-use Prim.Native.Nat.{ℕ, _+_, _*_, _-_, _≤_, _<_}
-use mathlib.Core.Path.{_≡_, ap, _∙_}
+use Prim.Native.Nat.{ℕ, _+_, _*_, _-_}
+use mathlib.Core.Path.{ap, _∙_}
 use mathlib.Core.List.{List}
 use native.Mathlib.Omega.{arith}
-use lib.ListN.{length, getD, length-take, length-drop}
+use lib.ListN.{getD, length-take, length-drop}
 use denote.Ref.{now}
 use Rattle.group.specs.Elements.{parametersOf}
-use Rattle.rules.specs.Bytes.{part}
-use Rattle.jobs.specs.Board.{pairBytes}
 use Rattle.output.specs.Written.{written}
 use Rattle.output.proofs.Laws.{more}
 use Rattle.ballots.specs.Parts.{matrixOf}

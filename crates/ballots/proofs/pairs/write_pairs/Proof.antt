@@ -1,5 +1,5 @@
-use Prim.Native.Nat.{ℕ, _+_, _-_, _*_, _≤_, _<_}
-use mathlib.Core.Path.{_≡_, refl, sym, ap, _∙_}
+use Prim.Native.Nat.{ℕ, _-_, _*_, _≤_}
+use mathlib.Core.Path.{_≡_, refl, ap, _∙_}
 use mathlib.Core.List.{List}
 use native.Mathlib.Nat.{mul-comm, mul-le-mul-right, mod-lt}
 use native.Mathlib.Omega.{arith}
@@ -8,7 +8,6 @@ use borrow.Rule.Slice.PartMut.{midOf}
 use denote.Ref.{now}
 use Rattle.numbers.specs.Below.{blocks}
 use Rattle.group.specs.Elements.{parametersOf}
-use Rattle.rules.specs.Claims.{Matrix}
 use Rattle.output.specs.Written.{written}
 use Rattle.output.proofs.Laws.{none, block-more}
 use Rattle.ballots.specs.Parts.{matrixOf}

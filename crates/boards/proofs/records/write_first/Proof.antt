@@ -1,16 +1,13 @@
 use Prim.Native.Nat.{ℕ, _+_, _*_, _≤_, _<_, _^_}
-use mathlib.Core.Path.{_≡_, refl, sym, ap, _∙_}
+use mathlib.Core.Path.{_≡_, refl, ap, _∙_}
 use mathlib.Core.List.{List, []}
 use native.Mathlib.Omega.{arith}
-use lib.ListN.{length, getD}
+use lib.ListN.{length}
 use denote.Ref.{now}
-use Rattle.sha256.specs.Message.{sha256}
 use Rattle.group.specs.Elements.{parametersOf}
 use Rattle.rules.specs.Answers.{padded}
 use Rattle.jobs.specs.Job.{recordDraws, drawsAt, rankingOf, standing}
-use Rattle.jobs.specs.Board.{recordBytes}
 use Rattle.output.specs.Written.{written}
-use Rattle.ballots.specs.Parts.{ballotOf}
 use Rattle.ballots.proofs.Entries.{spread-part}
 use Rattle.plain.proofs.Sizes.{draws-first, length-first}
 use Rattle.count.specs.State.{listOf}

@@ -1,13 +1,13 @@
 use Prim.Native.Nat.{ℕ, suc, _+_, _*_, _-_, _≤_, _<_, _^_}
-use mathlib.Core.Path.{_≡_, refl, sym, ap, _∙_}
+use mathlib.Core.Path.{_≡_, refl, ap, _∙_}
 use mathlib.Core.List.{List, [], _∷_, _++_}
 use native.Mathlib.Omega.{arith}
-use lib.ListN.{length, take}
+use lib.ListN.{length}
 use denote.Ref.{now}
 use Rattle.group.specs.Elements.{parametersOf}
 use Rattle.rules.specs.Answers.{padded}
 use Rattle.jobs.specs.Job as J
-use Rattle.jobs.specs.Job.{recordDraws, roundDraws, drawsAt, rankingOf, standing, placeOf}
+use Rattle.jobs.specs.Job.{drawsAt, rankingOf, standing, placeOf}
 use Rattle.output.specs.Written.{written}
 use Rattle.plain.proofs.Sizes.{length-later}
 use Rattle.count.specs.State.{listOf}

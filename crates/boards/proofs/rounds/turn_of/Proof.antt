@@ -1,11 +1,8 @@
-use Prim.Native.Nat.{ℕ, suc, _+_, _*_, _-_, _≤_, _<_}
+use Prim.Native.Nat.{ℕ, suc, _+_, _*_, _-_}
 use mathlib.Core.Path.{_≡_, refl, sym, ap, _∙_}
 use native.Mathlib.Omega.{arith}
-use lib.ListN.{take, getD}
-use Rattle.jobs.specs.Job.{recordDraws, roundDraws}
-use Rattle.count.specs.State.{listOf}
+use Rattle.jobs.specs.Job.{roundDraws}
 use Rattle.boards.proofs.Spans.{round-more}
-use borrow.Author.Needs.{needs}
 use Rattle.boards.proofs.rounds.turn_of.Statement.{statement}
 use Rattle.boards.proofs.rounds.turn_of.Tie as tie
 

@@ -1,8 +1,7 @@
-use mathlib.Core.Path.{_≡_, refl}
 use native.Mathlib.Omega.{arith}
-use lib.ListN.{length, length-take, length-drop}
+use lib.ListN.{length-take, length-drop}
 use denote.Ref.{now}
-use Prim.Native.Nat.{_+_, _-_}
+use Prim.Native.Nat.{_-_}
 use Rattle.output.proofs.Laws.{more}
 use Rattle.boards.proofs.Stages.{length-header}
 use borrow.Author.Needs.{needs}

@@ -1,14 +1,13 @@
-use Prim.Native.Nat.{ℕ, suc, _+_, _*_, _-_, _≤_, _<_}
-use mathlib.Core.Path.{_≡_, refl, sym, ap, _∙_}
-use mathlib.Core.List.{List}
+use Prim.Native.Nat.{ℕ, suc, _+_, _*_, _-_}
+use mathlib.Core.Path.{_≡_, refl, ap, _∙_}
 use native.Mathlib.Omega.{arith}
-use lib.ListN.{length, length-take, length-drop}
+use lib.ListN.{length-take, length-drop}
 use denote.Ref.{now}
 use Rattle.sha256.specs.Message.{sha256}
 use Rattle.group.specs.Elements.{parametersOf}
 use Rattle.rules.specs.Records.{recordLength, sheetLength}
 use Rattle.jobs.specs.Job as J
-use Rattle.jobs.specs.Job.{recordDraws, roundDraws}
+use Rattle.jobs.specs.Job.{recordDraws}
 use Rattle.boards.specs.Parts.{boardJob}
 use Rattle.boards.proofs.Spans.{columns-within}
 use Rattle.boards.proofs.Stages.{draws-mono, turned, records-are, round-joined}

@@ -1,6 +1,5 @@
-use Prim.Native.Nat.{ℕ, suc, _+_, _*_, _-_, _≤_, _<_}
-use mathlib.Core.Path.{_≡_, refl, sym, ap, _∙_}
-use native.Mathlib.Numerals.{add-one}
+use Prim.Native.Nat.{_+_, _*_, _-_, _≤_}
+use mathlib.Core.Path.{_≡_, refl, _∙_}
 use native.Mathlib.Omega.{arith}
 use lib.ListN.{length, length-take, length-drop}
 use denote.Ref.{now}
@@ -8,7 +7,7 @@ use Rattle.numbers.specs.Below.{blocks}
 use Rattle.sha256.specs.Message.{sha256}
 use Rattle.group.specs.Elements.{parametersOf}
 use Rattle.rules.specs.Records.{recordLength, sheetLength, roundAt}
-use Rattle.jobs.specs.Job.{recordDraws, roundDraws}
+use Rattle.jobs.specs.Job.{roundDraws}
 use Rattle.output.specs.Written.{written}
 use Rattle.output.proofs.Laws.{none}
 use Rattle.plain.proofs.Counted.{draws-more, length-more}

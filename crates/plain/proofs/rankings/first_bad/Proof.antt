@@ -1,12 +1,10 @@
-use Prim.Native.Nat.{ℕ, suc, _+_, _-_, _*_, _≤_, _<_}
-use mathlib.Core.Path.{_≡_, refl, sym, ap, _∙_}
+use Prim.Native.Nat.{ℕ, _+_, _-_, _*_, _≤_, _<_}
+use mathlib.Core.Path.{_≡_, sym, _∙_}
 use native.Mathlib.Nat.{mul-le-mul-right}
 use native.Mathlib.Numerals.{add-one}
 use native.Mathlib.Omega.{arith}
 use borrow.Author.Tests.{not-true, not-false}
-use denote.Ref.{now}
-use Rattle.rules.specs.Count.{isRanking}
-use Rattle.jobs.specs.Job.{Job, rankingOf}
+use Rattle.jobs.specs.Job.{Job}
 use Rattle.jobs.specs.Write.{firstBad}
 use Rattle.plain.proofs.Firsts.{bad-none, bad-passed, bad-found, bad-stays}
 use borrow.Author.Needs.{needs}

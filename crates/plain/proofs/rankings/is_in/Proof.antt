@@ -1,5 +1,5 @@
 use mathlib.Core.Path.{_∙_, ap}
-use mathlib.Core.Bool.{Bool, not}
+use mathlib.Core.Bool.{not}
 use native.Mathlib.Omega.{arith}
 use Rattle.count.specs.State.{listOf}
 use Rattle.plain.proofs.Firsts.{in-below, in-above, in-left}

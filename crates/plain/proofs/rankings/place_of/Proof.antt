@@ -1,17 +1,10 @@
-use Prim.Native.Nat.{ℕ, _+_, _-_, _*_, _≤_, _<_}
-use mathlib.Core.Path.{_≡_, refl, sym, ap, _∙_}
-use mathlib.Core.Logic.{⊎-elim}
-use mathlib.Core.List.{List, [], _∷_, _++_}
+use Prim.Native.Nat.{_+_, _-_, _≤_}
+use mathlib.Core.Path.{_≡_, sym, _∙_}
 use native.Mathlib.Omega.{arith}
-use borrow.Author.Tests.{not-true, not-false}
-use lib.ListN.{length, getD, take, drop, length-take, length-drop}
+use lib.ListN.{take, drop}
 use lib.Seq.{getD-take}
-use denote.Ref.{now}
-use Rattle.rules.specs.Bytes.{part, bytes4}
-use Rattle.jobs.specs.Job.{standing, placeOf}
-use Rattle.rules.specs.Answers.{padded}
-use Rattle.count.specs.State.{listOf}
-use Rattle.plain.proofs.Lists.{standing-out, standing-in, pad-more, part-few, place-found, place-passed, place-end}
+use Rattle.jobs.specs.Job.{placeOf}
+use Rattle.plain.proofs.Lists.{place-found, place-passed, place-end}
 use borrow.Author.Needs.{needs}
 use Rattle.plain.proofs.rankings.place_of.Statement.{statement}
 use Rattle.plain.proofs.rankings.place_of.Tie as tie

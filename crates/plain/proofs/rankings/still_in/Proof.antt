@@ -1,18 +1,16 @@
-use Prim.Native.Nat.{ℕ, _+_, _-_, _*_, _≤_, _<_}
+use Prim.Native.Nat.{_+_, _-_, _≤_, _<_}
 use mathlib.Core.Path.{_≡_, refl, sym, ap, _∙_}
 use mathlib.Core.Logic.{⊎-elim}
-use mathlib.Core.List.{List, [], _∷_, _++_}
 use native.Mathlib.Omega.{arith}
 use borrow.Author.Tests.{not-true, not-false}
-use lib.ListN.{length, getD, take, drop, length-take, length-drop, length-append}
-use lib.Seq.{getD-take}
+use lib.ListN.{length, getD, length-append}
 use denote.Ref.{now}
-use Rattle.rules.specs.Bytes.{part, bytes4}
+use Rattle.rules.specs.Bytes.{part}
 use Rattle.rules.specs.Count.{member}
-use Rattle.jobs.specs.Job.{standing, placeOf}
+use Rattle.jobs.specs.Job.{standing}
 use Rattle.rules.specs.Answers.{padded}
 use Rattle.count.specs.State.{listOf}
-use Rattle.plain.proofs.Lists.{standing-out, standing-in, pad-more, part-few, place-found, place-passed}
+use Rattle.plain.proofs.Lists.{standing-out, standing-in, pad-more, part-few}
 use borrow.Author.Needs.{needs}
 use Rattle.plain.proofs.rankings.still_in.Statement.{statement}
 use Rattle.plain.proofs.rankings.still_in.Tie as tie

@@ -1,6 +1,5 @@
-use Prim.Native.Nat.{ℕ, _+_, _-_, _*_, _≤_, _<_}
+use Prim.Native.Nat.{ℕ, _+_, _-_, _*_, _≤_}
 use mathlib.Core.Path.{_≡_, refl, sym, ap, _∙_}
-use mathlib.Core.List.{List}
 use native.Mathlib.Omega.{arith}
 use denote.Ref.{now}
 use Rattle.rules.specs.Bytes.{part}
@@ -8,7 +7,7 @@ use Rattle.rules.specs.Answers.{padded}
 use Rattle.rules.specs.Records.{roundAt}
 use Rattle.rules.specs.Count.{Result, plainCount, countFrom, table}
 use Rattle.jobs.specs.Job.{roundDraws}
-use Rattle.count.specs.State.{Kept, standingOf, listOf}
+use Rattle.count.specs.State.{Kept, standingOf}
 use Rattle.count.proofs.Picks.{gone-is, sheets-many}
 use Rattle.plain.proofs.Counted.{not-last, count-goes, count-ends, draws-more, length-more, padded-order, far, at-most}
 use borrow.Author.Needs.{needs}

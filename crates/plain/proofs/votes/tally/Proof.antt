@@ -1,11 +1,9 @@
-use mathlib.Core.Bool.{Bool, true, false, cond}
 use native.Mathlib.Nat.{mul-le-mul-right}
 use lib.Dec.{eqb}
-use lib.ListN.{replicate}
 use Prim.Native.Nat.{ℕ, suc, _+_, _-_, _*_, _≤_, _<_}
-use mathlib.Core.Path.{_≡_, refl, sym, ap, _∙_}
+use mathlib.Core.Path.{_≡_, refl, sym, _∙_}
 use native.Mathlib.Omega.{arith}
-use lib.ListN.{length, getD, take, drop, length-set}
+use lib.ListN.{length, getD}
 use mathlib.Core.List.{List}
 use denote.Ref.{now}
 use Rattle.rules.specs.Bytes.{part}

@@ -1,13 +1,8 @@
-use Prim.Native.Nat.{ℕ, suc, _+_, _-_, _*_, _≤_, _<_}
-use mathlib.Core.Path.{_≡_, refl, sym, ap, _∙_}
+use Prim.Native.Nat.{_-_}
+use mathlib.Core.Path.{_≡_}
 use native.Mathlib.Omega.{arith}
-use borrow.Author.Tests.{not-true, not-false}
-use lib.ListN.{length, getD, take, drop, length-set}
-use denote.Ref.{now}
-use Rattle.rules.specs.Bytes.{part}
-use Rattle.rules.specs.Count.{member, firstIn, votesFor, table}
-use Rattle.count.specs.State.{listOf}
-use Rattle.plain.proofs.Firsts.{first-found, first-passed, first-none, vote-one, vote-none, votes-more, votes-none, counts-are}
+use lib.ListN.{length, getD, length-set}
+use Rattle.plain.proofs.Firsts.{vote-one, vote-none}
 use borrow.Author.Needs.{needs}
 use Rattle.plain.proofs.votes.voted.Statement.{statement}
 use Rattle.plain.proofs.votes.voted.Tie as tie

@@ -1,17 +1,16 @@
-use Prim.Native.Nat.{ℕ, _+_, _-_, _*_, _≤_}
-use mathlib.Core.Path.{_≡_, refl, sym, ap, _∙_}
+use Prim.Native.Nat.{ℕ, _+_, _-_, _≤_}
+use mathlib.Core.Path.{_≡_, refl, _∙_}
 use mathlib.Core.List.{List, _++_}
 use native.Mathlib.Omega.{arith}
-use lib.ListN.{length, getD}
+use lib.ListN.{length}
 use denote.Ref.{now}
 use Rattle.numbers.specs.Below.{blocks}
 use Rattle.rules.specs.Bytes.{bytes4}
 use Rattle.sha256.specs.Feed.{Fed}
 use Rattle.output.specs.Written.{written}
 use Rattle.group.specs.Elements.{parametersOf}
-use Rattle.statements.specs.Claims.{claimOf}
-use Rattle.proving.specs.Plans.{branchOf, trueTs, trueRs, falseTs, falseRs}
-use Rattle.proving.proofs.Branches.{branch-none, branch-more, fed-none, fed-more, length-true, length-false}
+use Rattle.proving.specs.Plans.{branchOf, trueTs, trueRs}
+use Rattle.proving.proofs.Branches.{branch-none, branch-more, fed-none, fed-more, length-true}
 use borrow.Author.Needs.{needs}
 use Rattle.proving.proofs.branch.true_branch.Statement.{statement}
 use Rattle.proving.proofs.branch.true_branch.Tie as tie

@@ -1,5 +1,4 @@
 use Rattle.group.specs.Elements.{parametersOf}
-use Rattle.statements.specs.Values.{statementOf}
 use Rattle.proving.proofs.Stating.{stated-true}
 use borrow.Author.Needs.{needs}
 use Rattle.proving.proofs.statement.put_true.Statement.{statement}

@@ -1,5 +1,3 @@
-use mathlib.Core.Path.{_≡_}
-use Rattle.group.specs.Elements.{Parameters}
 use borrow.Author.Needs.{needs}
 use Rattle.writer.proofs.tests.group_of.Statement.{statement}
 use Rattle.writer.proofs.tests.group_of.Tie as tie
