@@ -3,3 +3,4 @@ pub mod FirstFault
 pub mod RoundPlaces
 pub mod RoundEnds
 pub mod Onward
+pub mod Held

@@ -9,7 +9,7 @@ use lib.Dec.{eqb}
 use lib.ListN.{length}
 use borrow.Author.Tests.{eqb-false}
 use Rattle.numbers.proofs.Tests.{or-false-left}
-use Rattle.rules.specs.Records.{recordAt, roundAt, recordLength, ballotLength, shiftLength, sheetLength}
+use Rattle.rules.specs.Records.{headerLength, recordAt, roundAt, recordLength, ballotLength, shiftLength, sheetLength}
 use Rattle.rules.specs.Count.{Standing, closes}
 use Rattle.records.specs.declared.Head.{Head}
 use Rattle.records.specs.Heads.{Known}
@@ -49,7 +49,7 @@ module _ (s : List ℕ) (h : Head) (r : Stage) (p : Placed s h r) where
         go zero d = let w = p .first d in rw (w .0, w .1) (omega arith)
         go (suc e) d = omega (arith, earlier-at e d .3)
 
-pub placed-first : (s : List ℕ) (h : Head) → Known s h → Placed s h (firstStage (h .n))
+pub placed-first : (s : List ℕ) (h : Head) → Known s h → Placed s h (firstStage (h .n) headerLength)
 unfolding roundAt recordLength ballotLength
 placed-first s h p =
     record { here = refl; sized = refl; fits = p .long; round = omega (arith, p .low); first = λ _. (refl, refl); later = λ e z. absurd (omega arith) }

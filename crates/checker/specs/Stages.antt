@@ -8,8 +8,8 @@ use Rattle.records.specs.Sizes.{ballotSize, shiftSize, sheetSize}
 use Rattle.records.specs.declared.Head.{Head}
 use Rattle.checker.specs.declared.stages.Stage.{Stage}
 
-abbrev pub firstStage : (n : ℕ) → Stage
-firstStage n = record { m = 0; a = 0; at = 54; size = ballotSize n; before = 0; earlier = 0 }
+abbrev pub firstStage : (n at : ℕ) → Stage
+firstStage n at = record { m = 0; a = 0; at = at; size = ballotSize n; before = 0; earlier = 0 }
 
 abbrev pub nextStage : (n k a : ℕ) → Stage → Stage
 nextStage n k a r =

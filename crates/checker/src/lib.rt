@@ -3,7 +3,6 @@ use crate::stages::Stage;
 use crate::turns::Round;
 use count::Count;
 use records::Head;
-use records::header;
 use records::header::Opened;
 use records::sheet;
 use rules::Answer;
@@ -13,12 +12,14 @@ ghost use mathlib.Core.Path.{_≡_};
 ghost use Prim.Native.Nat.{_+_, _*_, _-_};
 ghost use lib.ListN.{replicate};
 ghost use Rattle.sha256.specs.Message.{sha256};
+ghost use Rattle.rules.specs.Records.{headerLength};
 ghost use Rattle.rules.specs.Count.{start};
 ghost use Rattle.rules.specs.Check.{accepted, refused, checkFrom, checkBoard};
 ghost use Rattle.rules.specs.Answers.{refusalNumber, verdictOf, orderOf};
 ghost use Rattle.count.specs.State.{standingOf, Kept};
-ghost use Rattle.records.specs.Heads.{headOf, Known};
+ghost use Rattle.records.specs.Heads.{headOf, Known, Opening};
 
+mod reading;
 pub mod stages;
 pub mod turns;
 
@@ -72,16 +73,16 @@ fn accepted(count: Count, n: usize, winner: usize) -> Checked
     }
 }
 
-// The rounds, one after another. Each sheet takes the standing count and hands back the next.
-fn rounds(board: &[u8], h: Head) -> Checked
-    requires { ⌜ Known (now board) h ⌝ }
+// The rounds from a place on, one after another. Each sheet takes the standing count and hands back the next.
+fn rounds(board: &[u8], at: usize, h: Head) -> Checked
+    requires { ⌜ Known (now board) h × (at ≡ headerLength) ⌝ }
     ensures { λ r. ⌜ (verdictOf r ≡ checkFrom sha256 (now (board .entry)) (headOf (now (board .entry)) h) (h .n) start 0 0) × (r .order ≡ orderOf (checkFrom sha256 (now (board .entry)) (headOf (now (board .entry)) h) (h .n) start 0 0)) ⌝ }
 {
     let head = h;
     let n = h.n;
     let k = h.k;
     let mut count = Count::new();
-    let mut stage = Stage::first(n);
+    let mut stage = Stage::first(n, at);
     loop {
         let outcome = turns::turn(board, head, count, stage);
         match outcome {
@@ -100,13 +101,22 @@ fn rounds(board: &[u8], h: Head) -> Checked
     }
 }
 
-// The verdict on a board.
+// The verdict on a board whose HD record was opened, its rounds being read from a place on.
+fn verdict(board: &[u8], at: usize, opened: Opened) -> Checked
+    requires { ⌜ Opening (now board) opened × (at ≡ headerLength) ⌝ }
+    ensures { λ r. ⌜ (verdictOf r ≡ checkBoard sha256 (now (board .entry))) × (r .order ≡ orderOf (checkBoard sha256 (now (board .entry)))) ⌝ }
+{
+    match opened {
+        Opened::Board(h) => rounds(board, at, h),
+        Opened::Refused(why) => refused(why, 0),
+    }
+}
+
+// The verdict on a board. The HD record is read at the first place, the rounds from the place after it on.
 pub fn check(board: &[u8]) -> Checked
     ensures { λ r. ⌜ (verdictOf r ≡ checkBoard sha256 (now (board .entry))) × (r .order ≡ orderOf (checkBoard sha256 (now (board .entry)))) ⌝ }
 {
-    let opened = header::open(board);
-    match opened {
-        Opened::Board(h) => rounds(board, h),
-        Opened::Refused(why) => refused(why, 0),
-    }
+    let r = reading::start(board);
+    let opened = reading::header_of(r);
+    reading::verdict_of(reading::moved(r, 54), opened)
 }

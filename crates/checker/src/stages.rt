@@ -19,14 +19,15 @@ pub struct Stage {
 }
 
 impl Stage {
-    pub fn first(n: usize) -> Stage
+    // The first round, at a place.
+    pub fn first(n: usize, at: usize) -> Stage
         requires { ⌜ n ≤ 8 ⌝ }
-        ensures { λ r. ⌜ r ≡ firstStage n ⌝ }
+        ensures { λ r. ⌜ r ≡ firstStage n at ⌝ }
     {
         Stage {
             m: 0,
             a: 0,
-            at: 54,
+            at,
             size: ballot::ballot_size(n),
             before: 0,
             earlier: 0,

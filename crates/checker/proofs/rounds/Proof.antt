@@ -24,19 +24,19 @@ use Rattle.checker.proofs.rounds.Statement.{statement}
 use Rattle.checker.proofs.rounds.Tie as tie
 
 abbrev Inv-loop : tie.InvT-loop
-Inv-loop board head n k count₀ stage₀ count stage =
+Inv-loop board at head n k count₀ stage₀ count stage =
     Placed board head stage × (count .gone .outs ≡ stage .m) × Kept count
     × (checkFrom sha256 board (headOf board head) n start 0 0 ≡ checkFrom sha256 board (headOf board head) (n - stage .m) (standingOf n count)
     (stage .m) (stage .a))
 
 abbrev μ-loop : tie.MeasureT-loop
-μ-loop board head n k count₀ stage₀ count stage = n - stage .m
+μ-loop board at head n k count₀ stage₀ count stage = n - stage .m
 
 loop-holds : tie.Need-loop-holds Inv-loop μ-loop
 loop-holds c =
     let a = c .before .before .before .args in
-    rw (c .first .ensures) (
-      placed-first (now (a .board)) (a .h) (c .before .before .before .pre),
+    rw (c .first .ensures, c .before .before .before .pre .1) (
+      placed-first (now (a .board)) (a .h) (c .before .before .before .pre .0),
       c .before .new .ensures .0,
       c .before .new .ensures .1,
       rw
@@ -103,13 +103,13 @@ counts-is c =
 sheet-requires : tie.Need-sheet-requires Inv-loop μ-loop
 sheet-requires c κs =
     let l = c .before .before .before .before .before .before .before .loop in
-    let high = c .before .before .before .before .before .before .before .before .before .before .before .pre .high in
+    let high = c .before .before .before .before .before .before .before .before .before .before .before .pre .0 .high in
     (l .inv .2, omega (arith, l .inv .1, l .inv .0 .round), high)
 
 next-requires : tie.Need-next-requires Inv-loop μ-loop
 next-requires c κs =
     let l = c .before .before .before .before .before .before .before .before .loop in (
-      c .before .before .before .before .before .before .before .before .before .before .before .before .pre .high,
+      c .before .before .before .before .before .before .before .before .before .before .before .before .pre .0 .high,
       omega (arith, l .inv .0 .round),
       omega (
         arith,
@@ -141,15 +141,15 @@ loop-again c =
 pub rounds-spec : {M : Type 1} → statement M
 rounds-spec =
     tie.close
-    (tie.spec Inv-loop μ-loop (λ c κs. search needs) (λ c κs. c .before .before .pre .high) loop-holds
-    (λ c κs. (c .before .before .before .before .pre, c .loop .inv .0, c .loop .inv .2)) (λ c. search needs) (λ c κs. search needs) returns
+    (tie.spec Inv-loop μ-loop (λ c κs. search needs) (λ c κs. c .before .before .pre .0 .high) loop-holds
+    (λ c κs. (c .before .before .before .before .pre .0, c .loop .inv .0, c .loop .inv .2)) (λ c. search needs) (λ c κs. search needs) returns
     (λ c. search needs) (λ c κs. c .before .before .before .before .loop .inv .2) returns-2 (λ c. search needs)
     (λ c. omega (arith, room (c .before), c .before .before .before .before .before .before .before .before .good))
     (λ c. omega (arith, room (c .before .before), c .before .before .before .before .before .before .before .before .before .good))
-    (λ c κs. (c .before .before .before .before .before .before .before .before .before .pre .high, room (c .before .before)))
+    (λ c κs. (c .before .before .before .before .before .before .before .before .before .pre .0 .high, room (c .before .before)))
     (λ c κs. (
       c .before .before .before .before .before .before .loop .inv .2,
-      c .before .before .before .before .before .before .before .before .before .before .pre .high,
+      c .before .before .before .before .before .before .before .before .before .before .pre .0 .high,
     ))
     sheet-requires next-requires
     (λ c. rw (c .next .ensures) (omega (arith, c .before .before .before .before .before .before .before .before .before .loop .inv .0 .round)))
