@@ -1,7 +1,7 @@
 -- The refusals of the checker and of the writer name what is there.
 use Prim.Native.Nat.{ℕ, zero, suc, _+_, _*_, _-_, _≤_, _<_}
 use mathlib.Core.Path.{_≡_, refl, sym, _∙_}
-use mathlib.Core.Bool.{Bool, true, false, cond, true≢false}
+use mathlib.Core.Bool.{Bool, true, false, cond, _&&_, true≢false, and-eq-true-iff}
 use mathlib.Core.List.{List, [], _∷_, _++_, append-assoc}
 use mathlib.Core.Option.{Option, none, some}
 use native.Mathlib.Nat.{pos-of-ne-zero, mul-le-mul-right}
@@ -10,6 +10,7 @@ use lib.Dec.{eqb}
 use lib.ListN.{length, length-append}
 use borrow.Author.Tests.{leb-true, eqb-true, eqb-false, eq-eqb, ne-eqb}
 use Rattle.rules.specs.Records.{headerLength, sheetLength, recordNumber, recordAt, roundAt}
+use Rattle.rules.specs.Group.{sizes}
 use Rattle.rules.specs.Count.{countsOf, countFrom, plainCount, member, Standing, start, next, leaves, closes, isRanking}
 use Rattle.jobs.specs.Job.{Job, rankingOf}
 use Rattle.jobs.specs.Write.{rankingsGood, jobFault, firstBad, which, boardWritten, jobRefused, writeOutcome}
@@ -225,6 +226,14 @@ rankings-bad hash job room good =
     (fault-is P _ _ (λ bad. absurd (true≢false (sym good ∙ bad)))
     (other _ _ (λ z. omega arith) (other _ _ (λ z. omega arith) (rw fault-none (λ z. omega arith)))))))
 
+-- and where the sizes are good
+few-rankings : (hash : List ℕ → List ℕ) (job : Job) (room : ℕ) → jobFault hash job room ≡ 13 → job .K ≤ 1000
+unfolding jobFault firstFault
+few-rankings hash job room z =
+    by-cases (sizes (job .n) (job .K))
+    (λ e. let w = simp and-eq-true-iff at e in leb-true (job .K) 1000 (w .1))
+    (λ e. absurd (omega (arith, rw e at z)))
+
 job-named : (hash : List ℕ → List ℕ) (job : Job) (room : ℕ) → (jobFault hash job room ≡ 0 → ⊥) → JobRefusal job (jobFault hash job room) (which job (jobFault hash job room))
 unfolding which member
 job-named hash job room ne =
@@ -234,6 +243,7 @@ job-named hash job room ne =
       others = λ z. rw (ne-eqb fault 13 z);
       wrong-length = λ z. rw (ne-eqb (length (job .rankings)) (job .K * job .n) z) (by-cases (eqb fault 13) (λ e. rw e) (λ e. rw e));
       first-bad = λ z l. rw (eq-eqb fault 13 z, eq-eqb (length (job .rankings)) (job .K * job .n) l) (go (firstBad job (job .K)) (first-bad job (job .K)) z l);
+      most = low-which (eqb fault 13) (eqb (length (job .rankings)) (job .K * job .n)) refl;
     }
   where
     go : (bad : ℕ) → FirstBad job (job .K) bad → jobFault hash job room ≡ 13 → length (job .rankings) ≡ job .K * job .n →
@@ -241,6 +251,16 @@ job-named hash job room ne =
     go zero w z l =
         absurd (rankings-bad hash job room (and-true (eq-eqb _ _ l) (all-true (job .K) _ (w .none-bad refl))) z)
     go (suc k) w z l = let o = w .one-bad k refl in (k, refl, o .0, o .1, o .2)
+
+    low-bad : (bad : ℕ) → FirstBad job (job .K) bad → bad ≤ job .K
+    low-bad zero w = omega arith
+    low-bad (suc k) w = omega (arith, w .one-bad k refl .0)
+
+    low-which : (due long : Bool) → eqb (jobFault hash job room) 13 ≡ due → cond (due && long) (firstBad job (job .K)) 0 ≤ 1000
+    low-which true true e =
+        omega (arith, low-bad _ (first-bad job (job .K)), few-rankings hash job room (eqb-true _ _ e))
+    low-which true false e = omega arith
+    low-which false long e = omega arith
 
 pub job-refusal : (hash : List ℕ → List ℕ) (job : Job) (room number w : ℕ) → writeOutcome hash job room ≡ jobRefused number w → JobRefusal job number w
 unfolding writeOutcome

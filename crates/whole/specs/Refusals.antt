@@ -32,6 +32,7 @@ pub record JobRefusal (job : Job) (number which : ℕ) : Type 0 where
   pub first-bad : number ≡ 13 → length (job .rankings) ≡ job .K * job .n →
       (k : ℕ) × (which ≡ suc k) × (k < job .K) × (isRanking (job .n) (rankingOf job k) ≡ false)
       × ((i : ℕ) → i < k → isRanking (job .n) (rankingOf job i) ≡ true)
+  pub most : which ≤ 1000
 
 pub record Refusals (hash : List ℕ → List ℕ) : Type 0 where
   pub of-boards : (s : List ℕ) (number place : ℕ) → checkBoard hash s ≡ refused number place → BoardRefusal s number place

@@ -1,0 +1,90 @@
+// The numbers of an answer, put into the slice that a program in C lends for it.
+use jobs::Reply;
+use rules::Answer;
+use rules::Refusal;
+ghost use mathlib.Core.Path.{_≡_};
+ghost use Prim.Native.Nat.{_≤_};
+ghost use mathlib.Core.List.{[], _∷_};
+ghost use lib.ListN.{length};
+ghost use Rattle.rules.specs.Answers.{refusalNumber, answerOf};
+ghost use Rattle.jobs.specs.Replies.{replyOf};
+ghost use Rattle.output.specs.Written.{written};
+ghost use Rattle.gooseoften.specs.Answers.{refusalCode, resultNumbers, checkCode, writeCode};
+ghost use Rattle.gooseoften.specs.Puts.{Placed, Which, checkPut, replyPut};
+
+fn put_one(answer: &mut [usize], x: usize)
+    requires { ⌜ 1 ≤ length (now answer) ⌝ }
+    ensures { λ _. ⌜ now (answer .exit) ≡ written (x ∷ []) (now (answer .entry)) ⌝ }
+{
+    answer[0] = x;
+}
+
+fn put_pair(answer: &mut [usize], first: usize, second: usize)
+    requires { ⌜ 2 ≤ length (now answer) ⌝ }
+    ensures { λ _. ⌜ now (answer .exit) ≡ written (first ∷ second ∷ []) (now (answer .entry)) ⌝ }
+{
+    answer[0] = first;
+    answer[1] = second;
+}
+
+fn put_order(answer: &mut [usize], order: [u8; 8])
+    requires { ⌜ 8 ≤ length (now answer) ⌝ }
+    ensures { λ _. ⌜ now (answer .exit) ≡ written order (now (answer .entry)) ⌝ }
+{
+    for i in 0..8usize {
+        answer[i] = order[i] as usize;
+    }
+}
+
+fn put_result(answer: &mut [usize], rounds: usize, winner: usize, order: [u8; 8])
+    requires { ⌜ 10 ≤ length (now answer) ⌝ }
+    ensures { λ _. ⌜ now (answer .exit) ≡ written (resultNumbers rounds winner order) (now (answer .entry)) ⌝ }
+{
+    put_pair(answer, rounds, winner);
+    put_order(&mut answer[2..], order);
+}
+
+// The code of a refusal.
+fn code(refusal: Refusal, place: usize) -> usize
+    requires { ⌜ place ≤ 7008 ⌝ }
+    ensures { λ r. ⌜ r ≡ refusalCode (refusalNumber refusal) place ⌝ }
+{
+    checker::refusal_number(refusal) + 256 * place
+}
+
+// What check answered: its code is returned, and the result of an accepted board is put into the answer.
+pub fn put_verdict(answer: &mut [usize], verdict: Answer, order: [u8; 8]) -> usize
+    requires { ⌜ 10 ≤ length (now answer) ⌝ }
+    requires { ⌜ Placed verdict ⌝ }
+    ensures { λ r. ⌜ r ≡ checkCode (answerOf verdict order) ⌝ }
+    ensures { λ _. ⌜ now (answer .exit) ≡ checkPut verdict order (now (answer .entry)) ⌝ }
+{
+    match verdict {
+        Answer::Accepted { rounds, winner } => {
+            put_result(answer, rounds, winner, order);
+            0
+        }
+        Answer::Refused { refusal, record } => code(refusal, record),
+    }
+}
+
+// What write replied.
+pub fn put_reply(answer: &mut [usize], reply: Reply, order: [u8; 8]) -> usize
+    requires { ⌜ 11 ≤ length (now answer) ⌝ }
+    requires { ⌜ Which reply ⌝ }
+    ensures { λ r. ⌜ r ≡ writeCode (replyOf reply order) ⌝ }
+    ensures { λ _. ⌜ now (answer .exit) ≡ replyPut reply order (now (answer .entry)) ⌝ }
+{
+    match reply {
+        Reply::Board {
+            length,
+            rounds,
+            winner,
+        } => {
+            put_result(answer, rounds, winner, order);
+            put_one(&mut answer[10..], length);
+            0
+        }
+        Reply::Refused { refusal, which } => code(refusal, which),
+    }
+}

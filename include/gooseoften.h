@@ -1,0 +1,80 @@
+/* Gooseoften: checks and writes ranked-ballot boards. Link with libgooseoften.a.
+ *
+ * Both functions take any bytes and any numbers, keep nothing between calls, allocate nothing, and
+ * read and write only what is lent. What they return and write is proved.
+ *
+ * The caller sees to it that each pointer has as many elements behind it as the length after it
+ * says, that out and answer overlap nothing else that is lent, and that nobody else writes to what
+ * is lent before the call returns. Where a length is 0 the pointer may be anything but null. */
+#ifndef GOOSEOFTEN_H
+#define GOOSEOFTEN_H
+
+#include <stddef.h>
+#include <stdint.h>
+
+#ifdef __cplusplus
+extern "C" {
+#endif
+
+/* Both functions return 0, or a refusal: the number of the first rule that is broken, and 256 times
+ * the record (or the ranking) that goes with it. These are the numbers. */
+enum gooseoften_refusal {
+    GOOSEOFTEN_LENGTH = 1,     /* bytes left are fewer than the record's length */
+    GOOSEOFTEN_MARK = 2,       /* the mark differs from the one due */
+    GOOSEOFTEN_SIZES = 3,      /* n or K is out of range */
+    GOOSEOFTEN_ORDERS = 4,     /* a rule on p and q is broken */
+    GOOSEOFTEN_GENERATORS = 5, /* a rule on g0 or g1 is broken; of a job, or the label's length */
+    GOOSEOFTEN_NUMBER = 6,     /* the number or the round is not the one due */
+    GOOSEOFTEN_FIELD = 7,      /* a field is no group element, or not below q */
+    GOOSEOFTEN_PROOF = 8,      /* a proof fails */
+    GOOSEOFTEN_COUNT = 9,      /* a count is above K */
+    GOOSEOFTEN_TALLY = 10,     /* a tally equation fails */
+    GOOSEOFTEN_OUT = 11,       /* out is not the one due */
+    GOOSEOFTEN_REMAIN = 12,    /* bytes remain after the closing sheet */
+    GOOSEOFTEN_RANKINGS = 13,  /* the rankings' length is wrong, or a ranking lacks a process */
+    GOOSEOFTEN_DRAWS = 14,     /* draws are too few, or one is outside 1 to q - 1 */
+    GOOSEOFTEN_OUTPUT = 15     /* out is shorter than the board, or answer than its places */
+};
+
+static inline size_t gooseoften_refusal_number(size_t code)
+{
+    return code % 256;
+}
+
+/* The number of the record, from 0; with 12 the number of records read; with 13 the first bad
+ * ranking from 1, or 0 for a wrong length; 0 where no record is concerned. */
+static inline size_t gooseoften_refusal_record(size_t code)
+{
+    return code / 256;
+}
+
+/* The places of the answer of an accepted or written board. A refusal leaves the answer as it was. */
+enum gooseoften_answer {
+    GOOSEOFTEN_ROUNDS = 0,
+    GOOSEOFTEN_WINNER = 1,
+    GOOSEOFTEN_ORDER = 2, /* 8 places: the rounds - 1 processes in their order of going out, then 0 */
+    GOOSEOFTEN_CHECK_PLACES = 10,
+    GOOSEOFTEN_BOARD_LENGTH = 10, /* of a written board */
+    GOOSEOFTEN_WRITE_PLACES = 11
+};
+
+/* The verdict on a board. 15 where answer has fewer than GOOSEOFTEN_CHECK_PLACES places. */
+size_t gooseoften_check(const uint8_t *board, size_t board_length,
+                        size_t *answer, size_t answer_length);
+
+/* Writes the board of a job to the front of out, or refuses and leaves out and answer as they were.
+ * Rankings: a byte a place, one ranking after another. Draws are used in the order of the board;
+ * spare ones are ignored. 15 where out is shorter than the board, or, before all else, where answer
+ * has fewer than GOOSEOFTEN_WRITE_PLACES places. */
+size_t gooseoften_write(size_t n, size_t k, uint32_t p, uint32_t q, uint32_t g0, uint8_t counter,
+                        const uint8_t *label, size_t label_length,
+                        const uint8_t *rankings, size_t rankings_length,
+                        const uint32_t *draws, size_t draws_length,
+                        uint8_t *out, size_t out_length,
+                        size_t *answer, size_t answer_length);
+
+#ifdef __cplusplus
+}
+#endif
+
+#endif
