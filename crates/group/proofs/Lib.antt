@@ -1,3 +1,4 @@
--- Square and multiply, and what the test of an element says.
+-- Square and multiply, also in Montgomery form, and what the test of an element says.
 pub mod Square
+pub mod MontgomeryForm
 pub mod Elements
