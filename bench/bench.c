@@ -1,0 +1,247 @@
+/*
+ * Measures the library's checker against plain C of the same algorithm:
+ *
+ *   bench [-r REPEATS] [-s SECONDS] BOARD...
+ *
+ * Each board, NAME.board, is checked by turns, at least REPEATS times and for at least SECONDS in
+ * all, in another order each time. NAME.answer has what every checker must answer. Times are
+ * processor time. Ends with 1 if an answer is another.
+ *
+ * CHECKERS names the copies of plain.c, one for each compiler: X(gcc) stands for plain_check_gcc.
+ */
+#define _POSIX_C_SOURCE 200809L /* clock_gettime */
+
+#include "files.h"
+#include "library.h"
+#include "plain/plain.h"
+
+#include <stdbool.h>
+#include <stdio.h>
+#include <stdlib.h>
+#include <string.h>
+#include <time.h>
+
+#define X(name) size_t plain_check_##name(const uint8_t *board, size_t length, size_t *answer);
+CHECKERS
+#undef X
+
+struct checker {
+    const char *name;
+    size_t (*check)(const uint8_t *board, size_t length, size_t *answer);
+};
+
+/* The library is the last. */
+#define X(name) {#name, plain_check_##name},
+static const struct checker CHECKER[] = {CHECKERS{"library", library_check}};
+#undef X
+
+enum { COUNT = sizeof CHECKER / sizeof *CHECKER, LIBRARY = COUNT - 1, MOST_TIMES = 4096 };
+
+/* What is known of a board, and the times of each checker in milliseconds. */
+struct board {
+    const char *path;
+    uint8_t *bytes;
+    size_t length, n, k;
+    size_t due[1 + PLAIN_ANSWER];
+    double least[COUNT], median[COUNT];
+};
+
+static double milliseconds(clockid_t clock)
+{
+    struct timespec now;
+
+    clock_gettime(clock, &now);
+    return 1e3 * (double)now.tv_sec + 1e-6 * (double)now.tv_nsec;
+}
+
+static void read_answer(struct board *board)
+{
+    size_t length = strlen(board->path), end = length - strlen(".board");
+    char *path = room_for(length + 2, 1);
+
+    memcpy(path, board->path, end);
+    strcpy(path + end, ".answer");
+    FILE *stream = fopen(path, "r");
+    for (size_t i = 0; i <= PLAIN_ANSWER; i++)
+        if (stream == NULL || fscanf(stream, "%zu", &board->due[i]) != 1) {
+            fprintf(stderr, "%s: no answer to compare with\n", path);
+            exit(2);
+        }
+    fclose(stream);
+    free(path);
+}
+
+static void read_board(struct board *board, const char *path)
+{
+    size_t length = strlen(path);
+
+    if (length < 6 || strcmp(path + length - 6, ".board") != 0) {
+        fprintf(stderr, "%s: not named .board\n", path);
+        exit(2);
+    }
+    board->path = path;
+    board->bytes = read_file(path, &board->length);
+    if (board->length < 5) {
+        fprintf(stderr, "%s: too short\n", path);
+        exit(2);
+    }
+    board->n = board->bytes[2];
+    board->k = (size_t)board->bytes[3] << 8 | board->bytes[4];
+    read_answer(board);
+}
+
+/* The time of one check. Its answer must be the one due. */
+static double measure(const struct board *board, const struct checker *checker)
+{
+    size_t answer[1 + PLAIN_ANSWER];
+    double start = milliseconds(CLOCK_PROCESS_CPUTIME_ID);
+
+    answer[0] = checker->check(board->bytes, board->length, answer + 1);
+    double taken = milliseconds(CLOCK_PROCESS_CPUTIME_ID) - start;
+    if (memcmp(answer, board->due, sizeof answer) != 0) {
+        fprintf(stderr, "%s: %s answers %zu %zu, not as due\n", board->path, checker->name,
+                answer[0], answer[1]);
+        exit(1);
+    }
+    return taken;
+}
+
+static int compare(const void *a, const void *b)
+{
+    double x = *(const double *)a, y = *(const double *)b;
+
+    return (x > y) - (x < y);
+}
+
+static void run(struct board *board, size_t repeats, double seconds)
+{
+    static double times[COUNT][MOST_TIMES];
+    double end = milliseconds(CLOCK_MONOTONIC) + 1e3 * seconds;
+    size_t done = 0;
+
+    for (size_t c = 0; c < COUNT; c++)
+        measure(board, &CHECKER[c]); /* a first run, not counted */
+    while (done < MOST_TIMES && (done < repeats || milliseconds(CLOCK_MONOTONIC) < end)) {
+        for (size_t c = 0; c < COUNT; c++) {
+            size_t turn = (c + done) % COUNT;
+            times[turn][done] = measure(board, &CHECKER[turn]);
+        }
+        done++;
+    }
+    for (size_t c = 0; c < COUNT; c++) {
+        qsort(times[c], done, sizeof times[c][0], compare);
+        board->least[c] = times[c][0];
+        board->median[c] = times[c][done / 2];
+    }
+}
+
+static double faster_plain(const double *times)
+{
+    double best = times[0];
+
+    for (size_t c = 1; c < LIBRARY; c++)
+        if (times[c] < best)
+            best = times[c];
+    return best;
+}
+
+static const char *name_of(const char *path)
+{
+    const char *slash = strrchr(path, '/');
+
+    return slash == NULL ? path : slash + 1;
+}
+
+static void print_heading(void)
+{
+    printf("%-16s %2s %5s %6s %9s", "board", "n", "K", "rounds", "bytes");
+    for (size_t c = 0; c < COUNT; c++)
+        printf(" %8s ms", CHECKER[c].name);
+    for (size_t c = 0; c < LIBRARY; c++)
+        printf(" library/%s", CHECKER[c].name);
+    printf(" library/faster of medians\n");
+}
+
+/* The least times, the library's ratio to each plain C and to the faster, and that of medians. */
+static void print_line(const struct board *board)
+{
+    printf("%-16s %2zu %5zu %6zu %9zu", name_of(board->path), board->n, board->k, board->due[1],
+           board->length);
+    for (size_t c = 0; c < COUNT; c++)
+        printf(" %11.3f", board->least[c]);
+    for (size_t c = 0; c < LIBRARY; c++)
+        printf(" %*.3f", 8 + (int)strlen(CHECKER[c].name), board->least[LIBRARY] / board->least[c]);
+    printf(" %14.3f %10.3f\n", board->least[LIBRARY] / faster_plain(board->least),
+           board->median[LIBRARY] / faster_plain(board->median));
+    fflush(stdout);
+}
+
+/* Milliseconds a ballot, of boards with as many processes and rounds as the first. */
+static void print_growth(const struct board *boards, size_t count)
+{
+    printf("\ngrowth with K, n = %zu, %zu rounds\n%5s", boards[0].n, boards[0].due[1], "K");
+    for (size_t c = 0; c < COUNT; c++)
+        printf(" %8s ms a ballot", CHECKER[c].name);
+    printf("\n");
+    for (size_t i = 0; i < count; i++) {
+        if (boards[i].n != boards[0].n || boards[i].due[1] != boards[0].due[1])
+            continue;
+        printf("%5zu", boards[i].k);
+        for (size_t c = 0; c < COUNT; c++)
+            printf(" %20.4f", boards[i].least[c] / (double)boards[i].k);
+        printf("\n");
+    }
+}
+
+static void print_highest(const struct board *boards, size_t count)
+{
+    double highest = 0;
+    size_t at = 0;
+
+    for (size_t i = 0; i < count; i++) {
+        double ratio = boards[i].least[LIBRARY] / faster_plain(boards[i].least);
+        if (ratio > highest) {
+            highest = ratio;
+            at = i;
+        }
+    }
+    printf("\nhighest ratio to the faster plain C: %.3f (%s)\n", highest, name_of(boards[at].path));
+}
+
+static int usage(void)
+{
+    fputs("usage: bench [-r REPEATS] [-s SECONDS] BOARD...\n", stderr);
+    return 2;
+}
+
+int main(int count, char **arguments)
+{
+    size_t repeats = 5;
+    double seconds = 3;
+    int first = 1;
+
+    while (first + 1 < count && arguments[first][0] == '-') {
+        if (strcmp(arguments[first], "-r") == 0)
+            repeats = strtoul(arguments[first + 1], NULL, 10);
+        else if (strcmp(arguments[first], "-s") == 0)
+            seconds = strtod(arguments[first + 1], NULL);
+        else
+            return usage();
+        first += 2;
+    }
+    if (first >= count || repeats < 1)
+        return usage();
+    size_t boards = (size_t)(count - first);
+    struct board *board = room_for(boards, sizeof *board);
+    print_heading();
+    for (size_t i = 0; i < boards; i++) {
+        read_board(&board[i], arguments[(size_t)first + i]);
+        run(&board[i], repeats, seconds);
+        print_line(&board[i]);
+        free(board[i].bytes);
+    }
+    print_growth(board, boards);
+    print_highest(board, boards);
+    free(board);
+    return 0;
+}

@@ -1,0 +1,160 @@
+/*
+ * Makes the benchmark's boards with the library's writer:
+ *
+ *   make_boards FOLDER
+ *
+ * Each board is FOLDER/NAME.board, and FOLDER/NAME.answer has the 11 numbers that a checker must
+ * give: 0, then the answer's ten.
+ */
+#include "files.h"
+#include "gooseoften.h"
+#include "plain/plain.h"
+
+#include <stdio.h>
+#include <stdlib.h>
+#include <string.h>
+
+/* The largest p below 2^31 of which p and (p - 1) / 2 are both prime; 4 is a square, of order q. */
+static const uint32_t P = 2147483579, Q = 1073741789, G0 = 4;
+static const uint8_t COUNTER = 0;
+static const char LABEL[] = "a benchmark of the board checker";
+
+struct size {
+    const char *name;
+    size_t n, k; /* k is even */
+};
+
+static const struct size SIZES[] = {
+    {"n8-k10", 8, 10},   {"n8-k30", 8, 30},     {"n8-k100", 8, 100},
+    {"n8-k300", 8, 300}, {"n8-k1000", 8, 1000}, {"n2-k1000", 2, 1000},
+};
+
+/*
+ * Ballot k, from 0, ranks process k mod n + 1 first, then 1 (k even) or 2 (k odd), then the others
+ * by number. Nobody ever has more than half: 1 gets only even ballots, 2 only odd ones. Process n
+ * goes out first, then n - 1, down to 3; then 1 and 2 have half each, and 1 wins. That takes n - 1
+ * rounds, the most there can be.
+ */
+static void rank(uint8_t *ranking, size_t n, size_t k)
+{
+    uint8_t first = (uint8_t)(k % n + 1), second = (uint8_t)(k % 2 + 1);
+    size_t at = 0;
+
+    ranking[at++] = first;
+    if (second != first)
+        ranking[at++] = second;
+    for (uint8_t process = 1; process <= n; process++)
+        if (process != first && process != second)
+            ranking[at++] = process;
+}
+
+static void expected(size_t n, size_t *answer)
+{
+    memset(answer, 0, PLAIN_ANSWER * sizeof *answer);
+    answer[0] = n - 1;
+    answer[1] = 1;
+    for (size_t process = n; process > 2; process--)
+        answer[2 + n - process] = process;
+}
+
+/* A board of n - 1 rounds: its draws and its length. */
+static size_t draws_needed(size_t n, size_t k)
+{
+    size_t draws = 4 * n * n + 2 * n;
+
+    for (size_t rows = n - 1; rows >= 2; rows--)
+        draws += rows * n + (rows + 1) * (2 + rows * n) + rows;
+    return k * draws;
+}
+
+static size_t board_length(size_t n, size_t k)
+{
+    size_t sheet = 4 + 6 * n;
+    size_t length = 54 + k * (4 + 40 * n * n + 32 * n) + sheet;
+
+    for (size_t rows = n - 1; rows >= 2; rows--)
+        length += k * (4 + 8 * rows * n + (rows + 1) * (28 + 12 * rows * n)) + sheet;
+    return length;
+}
+
+/* Marsaglia's xorshift of 64 bits (13, 7, 17), each number brought into 1 to Q - 1. */
+static void fill_draws(uint32_t *draws, size_t count)
+{
+    uint64_t x = 88172645463325252;
+
+    for (size_t i = 0; i < count; i++) {
+        x ^= x << 13;
+        x ^= x >> 7;
+        x ^= x << 17;
+        draws[i] = (uint32_t)(1 + x % (Q - 1));
+    }
+}
+
+/* Writes the board into out, and its result into answer. Ends the program if it is not as due. */
+static void write_board(const struct size *size, uint8_t *out, size_t length, size_t *answer)
+{
+    size_t n = size->n, k = size->k, due[PLAIN_ANSWER];
+    size_t needed = draws_needed(n, k);
+    uint8_t *rankings = room_for(k, n);
+    uint32_t *draws = room_for(needed, sizeof *draws);
+
+    for (size_t i = 0; i < k; i++)
+        rank(rankings + i * n, n, i);
+    fill_draws(draws, needed);
+    expected(n, due);
+    size_t refusal = gooseoften_write(n, k, P, Q, G0, COUNTER, (const uint8_t *)LABEL, 32, rankings,
+                                      k * n, draws, needed, out, length, answer, PLAIN_ANSWER + 1);
+    if (refusal != 0 || answer[PLAIN_ANSWER] != length || memcmp(answer, due, sizeof due) != 0) {
+        fprintf(stderr, "%s: the writer answers %zu %zu\n", size->name, refusal, answer[0]);
+        exit(1);
+    }
+    free(draws);
+    free(rankings);
+}
+
+static FILE *create(const char *folder, const char *name, const char *kind)
+{
+    char path[4096];
+    int length = snprintf(path, sizeof path, "%s/%s.%s", folder, name, kind);
+    FILE *stream = 0 < length && (size_t)length < sizeof path ? fopen(path, "wb") : NULL;
+
+    if (stream == NULL) {
+        perror(path);
+        exit(2);
+    }
+    return stream;
+}
+
+static void make(const char *folder, const struct size *size)
+{
+    size_t length = board_length(size->n, size->k);
+    uint8_t *board = room_for(length, 1);
+    size_t answer[PLAIN_ANSWER + 1];
+
+    write_board(size, board, length, answer);
+    FILE *stream = create(folder, size->name, "board");
+    size_t written = fwrite(board, 1, length, stream);
+    if (fclose(stream) != 0 || written != length) {
+        perror(size->name);
+        exit(2);
+    }
+    stream = create(folder, size->name, "answer");
+    fputs("0", stream);
+    for (size_t i = 0; i < PLAIN_ANSWER; i++)
+        fprintf(stream, " %zu", answer[i]);
+    fputs("\n", stream);
+    fclose(stream);
+    printf("%s: %zu bytes\n", size->name, length);
+    free(board);
+}
+
+int main(int count, char **arguments)
+{
+    if (count != 2) {
+        fputs("usage: make_boards FOLDER\n", stderr);
+        return 2;
+    }
+    for (size_t i = 0; i < sizeof SIZES / sizeof *SIZES; i++)
+        make(arguments[1], &SIZES[i]);
+    return 0;
+}
