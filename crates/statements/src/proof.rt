@@ -55,28 +55,25 @@ pub fn proof_holds(
     requires { ⌜ ((l i : ℕ) → l < branches → i < statements → Within (now board) (now inverses) (parametersOf (g .group)) n claim l i) ⌝ }
     ensures { λ r. ⌜ r ≡ proofHolds (now (board .entry)) at branches statements sha256 (now (label .entry)) (parametersOf (g .group)) (claimOf (now (board .entry)) (parametersOf (g .group)) n claim) ⌝ }
 {
-    let known = g;
-    let asked = claim;
     let mut h = Hasher::new().update(label);
     let mut sum = Exponent(0);
     let mut ok = true;
     'branches: for l in 0..branches {
         let from = at + l * (4 + 12 * statements);
         let e = fields::as_exponent(board, from);
-        sum = group::add(known.group.q, sum, e);
+        sum = group::add(g.group.q, sum, e);
         'statements: for i in 0..statements {
             let place = from + 4 + 12 * i;
-            if !statement_at(board, inverses, known, n, asked, l, i, place, e) {
+            if !statement_at(board, inverses, g, n, claim, l, i, place, e) {
                 ok = false;
                 break 'branches;
             }
             h = h.update(&board[place..place + 8]);
         }
     }
-    if ok {
-        let digest = h.finish();
-        sum.0 == crate::challenge(&digest, known.group.q).0
-    } else {
-        false
+    if !ok {
+        return false;
     }
+    let digest = h.finish();
+    sum.0 == crate::challenge(&digest, g.group.q).0
 }

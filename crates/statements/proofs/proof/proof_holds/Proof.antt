@@ -22,22 +22,22 @@ use Rattle.statements.proofs.proof.proof_holds.Statement.{statement}
 use Rattle.statements.proofs.proof.proof_holds.Tie as tie
 
 abbrev Inv-statements : tie.InvT-statements
-Inv-statements board label inverses at branches statements n known asked h₀ sum ok₀ l from e i₀ h ok i =
+Inv-statements board label inverses at branches statements g n claim h₀ sum ok₀ l from e i₀ h ok i =
     (i ≤ statements) × (ok ≡ true)
-    × (allBelow i (here board (parametersOf (known .group)) (claimOf board (parametersOf (known .group)) n asked) at statements l) ≡ true)
+    × (allBelow i (here board (parametersOf (g .group)) (claimOf board (parametersOf (g .group)) n claim) at statements l) ≡ true)
     × Fed h ((label ++ blocks l (pieces board at statements)) ++ blocks i (piece board at statements l))
 
 abbrev μ-statements : tie.MeasureT-statements
-μ-statements board label inverses at branches statements n known asked h₀ sum ok₀ l from e i₀ h ok i = statements - i
+μ-statements board label inverses at branches statements g n claim h₀ sum ok₀ l from e i₀ h ok i = statements - i
 
 abbrev Inv-branches : tie.InvT-branches
-Inv-branches board label inverses at branches statements n known asked h₀ sum₀ ok₀ l₀ h sum ok l =
+Inv-branches board label inverses at branches statements g n claim h₀ sum₀ ok₀ l₀ h sum ok l =
     (l ≤ branches) × (ok ≡ true)
-    × (allBelow l (branchHere board (parametersOf (known .group)) (claimOf board (parametersOf (known .group)) n asked) at statements) ≡ true)
-    × (sum .0 ≡ sumBelow l (challenges board at statements) % known .group .q) × Fed h (label ++ blocks l (pieces board at statements))
+    × (allBelow l (branchHere board (parametersOf (g .group)) (claimOf board (parametersOf (g .group)) n claim) at statements) ≡ true)
+    × (sum .0 ≡ sumBelow l (challenges board at statements) % g .group .q) × Fed h (label ++ blocks l (pieces board at statements))
 
 abbrev μ-branches : tie.MeasureT-branches
-μ-branches board label inverses at branches statements n known asked h₀ sum₀ ok₀ l₀ h sum ok l = branches - l
+μ-branches board label inverses at branches statements g n claim h₀ sum₀ ok₀ l₀ h sum ok l = branches - l
 
 branches-holds : tie.Need-branches-holds Inv-statements μ-statements Inv-branches μ-branches
 unfolding sumBelow
@@ -177,10 +177,10 @@ after c =
     ))
     (c .branches-test .came)
 
-returns : tie.Need-returns Inv-statements μ-statements Inv-branches μ-branches
-returns c =
+returns-2 : tie.Need-returns-2 Inv-statements μ-statements Inv-branches μ-branches
+returns-2 c =
     let a = c .before .before .before .before .before .before .before .before .before .before .before .before .before .args in
-    let k = after (c .before .before .before .before .before .before) .0 (c .before .before .before .before .before .if2 .taken) in
+    let k = after (c .before .before .before .before .before .before) .0 (not-false _ (c .before .before .before .before .before .if2 .left)) in
     sums-up (now (a .board)) (now (a .label)) (parametersOf (a .g .group)) (claimOf (now (a .board)) (parametersOf (a .g .group)) (a .n) (a .claim))
     (a .at) (a .branches) (a .statements) _ _ (k .all) (k .sum)
     (c .before .before .challenge .ensures ∙ ap (λ (d : List ℕ). long d 0 % a .g .group .q)
@@ -194,5 +194,5 @@ proof-holds-spec =
     (λ c κs. omega (arith, branch-fits c)) (λ c κs. search needs) statements-holds (λ c. omega (arith, fits c)) (λ c. omega (arith, fits c))
     (λ c. omega (arith, fits c)) statement-at-requires (λ c. omega (arith, fits (c .before .before))) (λ c. omega (arith, fits (c .before .before)))
     (λ c. omega (arith, fits (c .before .before))) (λ c. omega (arith, fits (c .before .before))) (λ c κs. search needs) add-i (λ c. omega arith)
-    statements-again (λ c. omega arith) (λ c. omega arith) branches-again (λ c κs. search needs) (λ c κs. search needs) returns
-    (λ c. after (c .before) .1 (c .if2 .left)))
+    statements-again (λ c. omega arith) (λ c. omega arith) branches-again (λ c. after (c .before) .1 (not-true _ (c .if2 .taken)))
+    (λ c κs. search needs) (λ c κs. search needs) returns-2)
