@@ -1,9 +1,9 @@
 -- The proof of the rules, from the branches that are held and the known branch's answers. Assumes nothing.
-use Prim.Native.Nat.{ℕ, zero, suc, _+_, _*_, _-_, _%_, _<_}
+use Prim.Native.Nat.{ℕ, zero, suc, _+_, _*_, _-_, _%_, _≤_, _<_}
 use mathlib.Core.Path.{_≡_, refl, sym, ap, ap₂, _∙_}
 use mathlib.Core.Bool.{true}
 use mathlib.Core.List.{List, _++_, append-assoc, append-nil}
-use native.Mathlib.Nat.{add-zero, add-suc}
+use native.Mathlib.Nat.{add-zero, add-suc, mul-le-mul-right}
 use native.Mathlib.Numerals.{add-one}
 use native.Mathlib.Omega.{arith}
 use borrow.Author.Tests.{eq-eqb, ne-eqb, eqb-true}
@@ -23,7 +23,7 @@ use Rattle.jobs.specs.Prover.{Prover, committed, commitment, challengeOf, respo
 use Rattle.output.specs.Written.{written}
 use Rattle.output.proofs.Laws.{more, patch, rest-from, blocks-more}
 use Rattle.proving.specs.declared.Plan.{Plan}
-use Rattle.proving.specs.Plans.{Branched, branchOf, heldE, heldTs, heldRs, againstOf, drawsOf, truePair, falsePair, answers, proverOf, proofOf}
+use Rattle.proving.specs.Plans.{Branched, branchOf, heldE, heldTs, heldRs, heldBranch, againstOf, drawsOf, truePair, falsePair, answers, proverOf, proofOf}
 use Rattle.proving.proofs.Branches.{length-branch, length-true, length-false}
 
 -- a run of blocks around its k-th
@@ -48,6 +48,38 @@ branch-part e d t r y wide i =
     let s : branchOf e (i + 1 + d) t r ++ y ≡ branchOf e i t r ++ (t i ++ z) = rw (blocks-around f i d) (simp append-assoc) in
     rw (s, drop-at (branchOf e i t r) (t i ++ z) (4 + 12 * i) (length-branch e t r i (λ j h. wide j))) (take-at (t i) z 8 (wide i))
 
+-- a branch's end is within the proof
+pub in-proof : (plan : Plan) (l : ℕ) → l < plan .branches → (l + 1) * (4 + 12 * plan .statements) ≤ plan .branches * (4 + 12 * plan .statements)
+in-proof plan l h = mul-le-mul-right (4 + 12 * plan .statements) (omega arith)
+
+-- the branches as they are held
+module _ (g : Parameters) (claim : ℕ → ℕ → Statement) (plan : Plan) (draws : List ℕ) where
+  abbrev held : ℕ → List ℕ
+  held = heldBranch g claim plan draws
+
+  length-ts : (l i : ℕ) → length (heldTs g claim plan draws l i) ≡ 8
+  unfolding heldTs
+  length-ts l i = by-cases (eqb l (plan .known)) (λ e. rw e (length-true _ _)) (λ e. rw e (length-false _ _ _ _))
+
+  pub length-held : (l : ℕ) → length (held l) ≡ 4 + 12 * plan .statements
+  unfolding heldBranch
+  length-held l = length-branch _ _ _ (plan .statements) (λ i h. length-ts l i)
+
+  held-part : (l i : ℕ) (y : List ℕ) → i < plan .statements → part (held l ++ y) (4 + 12 * i) 8 ≡ heldTs g claim plan draws l i
+  unfolding heldBranch
+  held-part l i y h =
+      let n : i + 1 + (plan .statements - i - 1) ≡ plan .statements = omega arith in
+      rw n at (branch-part (heldE plan draws l) (plan .statements - i - 1) (heldTs g claim plan draws l) (heldRs plan draws l) y (length-ts l) i)
+
+  -- one more branch is held
+  pub held-more : (l a : ℕ) (o out x : List ℕ) (h k : Hasher) → a ≡ l * (4 + 12 * plan .statements) → out ≡ written (blocks l held) o →
+      Branched (heldE plan draws l) (plan .statements) (heldTs g claim plan draws l) (heldRs plan draws l) (midOf a (length out - a) out) x h k →
+      putMid a (length out - a) out x ≡ written (blocks (l + 1) held) o
+  unfolding heldBranch
+  held-more l a o out x h k ea eo b =
+      more (blocks l held) (held l) o out x a (length-blocks l (4 + 12 * plan .statements) held (λ l h. length-held l) ∙ sym ea) eo (b .wrote)
+      ∙ rw (blocks-more held l)
+
 module _ (label : List ℕ) (g : Parameters) (claim : ℕ → ℕ → Statement) (plan : Plan) (witness draws : List ℕ) where
   abbrev pr : Prover
   pr = proverOf claim plan witness draws
@@ -64,8 +96,8 @@ module _ (label : List ℕ) (g : Parameters) (claim : ℕ → ℕ → Statement)
   abbrev c : ℕ
   c = trueChallenge g pr sha256 label
 
-  pub held : ℕ → List ℕ
-  held l = branchOf (heldE plan draws l) (plan .statements) (heldTs g claim plan draws l) (heldRs plan draws l)
+  abbrev first : ℕ → List ℕ
+  first = held g claim plan draws
 
   final : ℕ → List ℕ
   final l = branchOf (es l) (plan .statements) (ts l) (rs l)
@@ -81,48 +113,25 @@ module _ (label : List ℕ) (g : Parameters) (claim : ℕ → ℕ → Statement)
       (λ e. let k : l ≡ plan .known = eqb-true l (plan .known) e in rw (e, k))
       (λ e. rw e)
 
-  length-ts : (l i : ℕ) → length (heldTs g claim plan draws l i) ≡ 8
-  unfolding heldTs
-  length-ts l i = by-cases (eqb l (plan .known)) (λ e. rw e (length-true _ _)) (λ e. rw e (length-false _ _ _ _))
-
-  pub length-held : (l : ℕ) → length (held l) ≡ 4 + 12 * plan .statements
-  unfolding held
-  length-held l = length-branch _ _ _ (plan .statements) (λ i h. length-ts l i)
-
   length-final : (l : ℕ) → length (final l) ≡ 4 + 12 * plan .statements
   unfolding final
-  length-final l = length-branch _ _ _ (plan .statements) (λ i h. ap length (same-ts l i) ∙ length-ts l i)
-
-  held-part : (l i : ℕ) (y : List ℕ) → i < plan .statements → part (held l ++ y) (4 + 12 * i) 8 ≡ heldTs g claim plan draws l i
-  unfolding held
-  held-part l i y h =
-      let n : i + 1 + (plan .statements - i - 1) ≡ plan .statements = omega arith in
-      rw n at (branch-part (heldE plan draws l) (plan .statements - i - 1) (heldTs g claim plan draws l) (heldRs plan draws l) y (length-ts l) i)
+  length-final l = length-branch _ _ _ (plan .statements) (λ i h. ap length (same-ts l i) ∙ length-ts g claim plan draws l i)
 
   -- a branch other than the known one is as it was held
-  same-branch : (l : ℕ) → (l ≡ plan .known → ⊥) → held l ≡ final l
-  unfolding held final heldE heldRs
+  same-branch : (l : ℕ) → (l ≡ plan .known → ⊥) → first l ≡ final l
+  unfolding heldBranch final heldE heldRs
   same-branch l n =
       branch-same _ _ (plan .statements) _ _ _ _ (rw (ne-eqb l (plan .known) n)) (λ i h. sym (same-ts l i)) (λ i h. rw (ne-eqb l (plan .known) n))
 
-  -- one more branch is held
-  pub held-more : (l a : ℕ) (o out x : List ℕ) (h k : Hasher) → a ≡ l * (4 + 12 * plan .statements) → out ≡ written (blocks l held) o →
-      Branched (heldE plan draws l) (plan .statements) (heldTs g claim plan draws l) (heldRs plan draws l) (midOf a (length out - a) out) x h k →
-      putMid a (length out - a) out x ≡ written (blocks (l + 1) held) o
-  unfolding held
-  held-more l a o out x h k ea eo b =
-      more (blocks l held) (held l) o out x a (length-blocks l (4 + 12 * plan .statements) held (λ l h. length-held l) ∙ sym ea) eo (b .wrote)
-      ∙ rw (blocks-more held l)
-
   -- the challenge that is left for the known branch
-  pub challenge-is : (e : ℕ) →
-      e ≡ (long (sha256 (label ++ blocks (plan .branches) (λ l. blocks (plan .statements) (heldTs g claim plan draws l)))) 0 % g .q
-      + againstOf (g .q) plan draws (plan .branches)) % g .q → e ≡ c
+  pub challenge-is : (e whole sum : ℕ) (digest : List ℕ) →
+      digest ≡ sha256 (label ++ blocks (plan .branches) (λ l. blocks (plan .statements) (heldTs g claim plan draws l))) →
+      whole ≡ long digest 0 % g .q → sum ≡ againstOf (g .q) plan draws (plan .branches) → e ≡ (whole + sum) % g .q → e ≡ c
   unfolding trueChallenge wholeChallenge againstOf
-  challenge-is e h =
+  challenge-is e whole sum digest ed ew ea ee =
       let s : blocks (plan .branches) (λ l. blocks (plan .statements) (ts l)) ≡ blocks (plan .branches) (λ l. blocks (plan .statements) (heldTs g claim plan draws l)) =
       blocks-same (plan .branches) _ _ (λ l k. blocks-same (plan .statements) _ _ (λ i m. same-ts l i)) in
-      h ∙ rw s
+      ee ∙ rw (ew, ed, ea, s)
 
   -- the known branch with its answers
   known-branch : (e at : ℕ) (t : ℕ → List ℕ) → e ≡ c → at ≡ drawsOf plan (plan .known) →
@@ -145,22 +154,22 @@ module _ (label : List ℕ) (g : Parameters) (claim : ℕ → ℕ → Statement)
         ap (λ (m : ℕ). blocks m f) n ∙ blocks-around f (plan .known) rest
 
     pub joined : (o l r : List ℕ) (a e at : ℕ) → a ≡ plan .known * (4 + 12 * plan .statements) → e ≡ c → at ≡ drawsOf plan (plan .known) →
-        l ≡ written (blocks (plan .branches) held) o →
+        l ≡ written (blocks (plan .branches) first) o →
         r ≡ written (branchOf e (plan .statements) (λ i. part (midOf a (length l - a) l) (4 + 12 * i) 8) (answers (g .q) e witness draws at)) (midOf a (length l - a) l) →
         putMid a (length l - a) l r ≡ written (proofOf label g claim plan witness draws) o
     joined o l r a e at ea ee eat el er =
-        let x : List ℕ = blocks (plan .known) held in
-        let old : List ℕ = held (plan .known) in
-        let y : List ℕ = blocks rest (λ j. held (plan .known + 1 + j)) in
-        let n : length x ≡ a = length-blocks (plan .known) (4 + 12 * plan .statements) held (λ l h. length-held l) ∙ sym ea in
-        let el' : l ≡ written (x ++ (old ++ y)) o = el ∙ ap (λ (w : List ℕ). written w o) (around held) in
+        let x : List ℕ = blocks (plan .known) first in
+        let old : List ℕ = first (plan .known) in
+        let y : List ℕ = blocks rest (λ j. first (plan .known + 1 + j)) in
+        let n : length x ≡ a = length-blocks (plan .known) (4 + 12 * plan .statements) first (λ l h. length-held g claim plan draws l) ∙ sym ea in
+        let el' : l ≡ written (x ++ (old ++ y)) o = el ∙ ap (λ (w : List ℕ). written w o) (around first) in
         let new : branchOf e (plan .statements) (λ i. part (midOf a (length l - a) l) (4 + 12 * i) 8) (answers (g .q) e witness draws at) ≡ final (plan .known) =
         known-branch e at (λ i. part (midOf a (length l - a) l) (4 + 12 * i) 8) ee eat
-        (λ i h. rw (rest-from x (old ++ y) o l a n el', append-assoc) (held-part (plan .known) i _ h)) in
-        let m : length (final (plan .known)) ≡ length old = length-final (plan .known) ∙ sym (length-held (plan .known)) in
+        (λ i h. rw (rest-from x (old ++ y) o l a n el', append-assoc) (held-part g claim plan draws (plan .known) i _ h)) in
+        let m : length (final (plan .known)) ≡ length old = length-final (plan .known) ∙ sym (length-held g claim plan draws (plan .known)) in
         patch x old (final (plan .known)) y o l r a n m el' (er ∙ ap (λ (w : List ℕ). written w (midOf a (length l - a) l)) new)
         ∙ ap (λ (w : List ℕ). written w o)
-        (ap₂ _++_ (blocks-same (plan .known) held final (λ l h. same-branch l (λ k. omega arith)))
+        (ap₂ _++_ (blocks-same (plan .known) first final (λ l h. same-branch l (λ k. omega arith)))
         (ap (λ (w : List ℕ). final (plan .known) ++ w)
-        (blocks-same rest (λ j. held (plan .known + 1 + j)) (λ j. final (plan .known + 1 + j)) (λ j h. same-branch (plan .known + 1 + j) (λ k. omega arith))))
+        (blocks-same rest (λ j. first (plan .known + 1 + j)) (λ j. final (plan .known + 1 + j)) (λ j h. same-branch (plan .known + 1 + j) (λ k. omega arith))))
         ∙ sym (around final) ∙ sym proof-is)

@@ -91,6 +91,14 @@ heldTs g claim plan draws l i = cond (eqb l (plan .known)) (trueTs g draws (draw
 unfoldable pub heldRs : Plan → (draws : List ℕ) (l i : ℕ) → ℕ
 heldRs plan draws l i = cond (eqb l (plan .known)) (trueRs draws (drawsOf plan l) i) (falseRs draws (drawsOf plan l) i)
 
+unfoldable pub heldBranch : Parameters → (ℕ → ℕ → Statement) → Plan → (draws : List ℕ) (l : ℕ) → List ℕ
+heldBranch g claim plan draws l = branchOf (heldE plan draws l) (plan .statements) (heldTs g claim plan draws l) (heldRs plan draws l)
+
+-- every branch was so written, and its commitments fed after the label
+pub record Committed (label : List ℕ) (g : Parameters) (claim : ℕ → ℕ → Statement) (plan : Plan) (draws before after : List ℕ) (k : Hasher) : Type 0 where
+  pub wrote : after ≡ written (blocks (plan .branches) (heldBranch g claim plan draws)) before
+  pub fed : Fed k (label ++ blocks (plan .branches) (λ l. blocks (plan .statements) (heldTs g claim plan draws l)))
+
 unfoldable pub againstOf : (q : ℕ) → Plan → (draws : List ℕ) → ℕ → ℕ
 againstOf q plan draws n = sumBelow n (λ l. cond (eqb l (plan .known)) 0 (q - getD draws (drawsOf plan l) 0))
 

@@ -11,7 +11,7 @@ ghost use Rattle.group.specs.Elements.{parametersOf};
 ghost use Rattle.statements.specs.Values.{Ready};
 ghost use Rattle.statements.specs.Claims.{claimOf};
 ghost use Rattle.output.specs.Written.{written};
-ghost use Rattle.proving.specs.Plans.{Drawn, Planned, againstOf, proofOf};
+ghost use Rattle.proving.specs.Plans.{Drawn, Planned, Committed, againstOf, proofOf};
 
 pub mod branch;
 pub mod statement;
@@ -48,9 +48,8 @@ fn rest_of(x: u64, q: u32) -> Exponent
     Exponent((x % (q as u64)) as u32)
 }
 
-// A whole proof of a claim about matrices of n columns that stand on a page. What the known branch's statements are does not matter: it is
-// made from their witnesses.
-pub fn make(
+// Every branch as it is before the known one's challenge is known; the commitments are fed to the hash after the label.
+fn commit(
     out: &mut [u8],
     label: &[u8],
     g: Setup,
@@ -59,18 +58,14 @@ pub fn make(
     n: usize,
     claim: Claim,
     plan: Plan,
-    witness: &[u32],
     draws: &[u32],
-)
+) -> Hasher
     requires { ⌜ Ready g × Planned (parametersOf (g .group)) (now page) (now inverses) n claim plan (now draws) ⌝ }
-    requires { ⌜ (plan .branches * (4 + 12 * plan .statements) ≤ length (now out)) × (plan .statements ≤ length (now witness)) ⌝ }
-    ensures { λ _. ⌜ now (out .exit) ≡ written (proofOf (now (label .entry)) (parametersOf (g .group)) (claimOf (now (page .entry)) (parametersOf (g .group)) n claim) plan (now (witness .entry)) (now (draws .entry))) (now (out .entry)) ⌝ }
+    requires { ⌜ plan .branches * (4 + 12 * plan .statements) ≤ length (now out) ⌝ }
+    ensures { λ k. ⌜ Committed (now (label .entry)) (parametersOf (g .group)) (claimOf (now (page .entry)) (parametersOf (g .group)) n claim) plan (now (draws .entry)) (now (out .entry)) (now (out .exit)) k ⌝ }
 {
     let branches = plan.branches;
-    let statements = plan.statements;
-    let known = plan.known;
-    let q = g.group.q;
-    let width = 4 + 12 * statements;
+    let width = 4 + 12 * plan.statements;
     let first = Hasher::new();
     let mut h = first.update(label);
     for l in 0..branches {
@@ -89,11 +84,36 @@ pub fn make(
         );
         h = next;
     }
+    h
+}
+
+// A whole proof of a claim about matrices of n columns that stand on a page. What the known branch's statements are does not matter: it is
+// made from their witnesses.
+pub fn make(
+    out: &mut [u8],
+    label: &[u8],
+    g: Setup,
+    page: &[u8],
+    inverses: &[u32],
+    n: usize,
+    claim: Claim,
+    plan: Plan,
+    witness: &[u32],
+    draws: &[u32],
+)
+    requires { ⌜ Ready g × Planned (parametersOf (g .group)) (now page) (now inverses) n claim plan (now draws) ⌝ }
+    requires { ⌜ (plan .branches * (4 + 12 * plan .statements) ≤ length (now out)) × (plan .statements ≤ length (now witness)) ⌝ }
+    ensures { λ _. ⌜ now (out .exit) ≡ written (proofOf (now (label .entry)) (parametersOf (g .group)) (claimOf (now (page .entry)) (parametersOf (g .group)) n claim) plan (now (witness .entry)) (now (draws .entry))) (now (out .entry)) ⌝ }
+{
+    let statements = plan.statements;
+    let known = plan.known;
+    let q = g.group.q;
+    let h = commit(out, label, g, page, inverses, n, claim, plan, draws);
     let sum = against(q, plan, draws);
     let digest = h.finish();
     let whole = statements::challenge(&digest, q);
     let e = rest_of((whole.0 as u64) + sum, q);
     let at = branch::branch_draws(plan, known);
-    let place = known * width;
+    let place = known * (4 + 12 * statements);
     branch::answer(&mut out[place..], q, e, statements, witness, draws, at);
 }
