@@ -1,18 +1,26 @@
 // The writer: a board made from rankings and draws.
+use crate::tests::Tested;
 use boards::Size;
+use boards::rounds;
 use group::Element;
 use jobs::Reply;
 use jobs::Written;
-use plain::rankings;
+use plain::rounds::Measure;
 use rules::Refusal;
 use statements::Setup;
 ghost use mathlib.Core.Path.{_≡_};
-ghost use lib.ListN.{length, replicate};
+ghost use Prim.Native.Nat.{_-_, _≤_};
+ghost use lib.ListN.{length, replicate, take};
 ghost use Rattle.sha256.specs.Message.{sha256};
+ghost use Rattle.group.specs.Elements.{parametersOf};
 ghost use Rattle.rules.specs.Answers.{refusalNumber};
-ghost use Rattle.jobs.specs.Write.{jobRefused, writeOutcome, writeOutput};
+ghost use Rattle.rules.specs.Records.{roundAt};
+ghost use Rattle.jobs.specs.Write.{boardWritten, jobRefused, writeOutcome, writeOutput};
 ghost use Rattle.jobs.specs.Replies.{outcomeOf, orderWritten};
+ghost use Rattle.statements.specs.Values.{Ready};
+ghost use Rattle.boards.specs.Parts.{boardJob, Able};
 ghost use Rattle.writer.specs.Jobs.{jobOf};
+ghost use Rattle.writer.specs.Steps.{bytesOf, Put};
 
 pub mod tests;
 
@@ -35,61 +43,64 @@ fn refused(refusal: Refusal, which: usize) -> Written
     }
 }
 
+fn board_written(m: Measure) -> Written
+    ensures { λ r. ⌜ (outcomeOf r ≡ boardWritten (m .length) (m .rounds) (take (m .rounds - 1) (m .order)) (m .winner)) × (r .order ≡ m .order) ⌝ }
+{
+    let order = m.order;
+    Written {
+        reply: Reply::Board {
+            length: m.length,
+            rounds: m.rounds,
+            winner: m.winner,
+        },
+        order,
+    }
+}
+
+// The board, where the output has room for it.
+fn put_board(
+    out: &mut [u8],
+    label: &[u8],
+    g: Setup,
+    size: Size,
+    rankings: &[u8],
+    draws: &[u32],
+    m: Measure,
+) -> bool
+    requires { ⌜ Ready g × Able (boardJob size (parametersOf (g .group)) (now label) (now rankings) (now draws)) (m .order) (m .rounds) × (length (now label) ≡ 32) ⌝ }
+    requires { ⌜ (54 ≤ m .length) × (roundAt (size .n) (size .k) (m .rounds) ≤ m .length) ⌝ }
+    ensures { λ r. ⌜ Put (m .length) (bytesOf size (parametersOf (g .group)) (now (label .entry)) (now (rankings .entry)) (now (draws .entry)) (m .order) (m .rounds)) (now (out .entry)) (now (out .exit)) r ⌝ }
+{
+    if out.len() < m.length {
+        return false;
+    }
+    let order = m.order;
+    rounds::write_board(out, label, g, size, rankings, draws, order, m.rounds);
+    true
+}
+
 // The board of a job, or why there is none.
 pub fn write(job: Job, label: &[u8], rankings: &[u8], draws: &[u32], out: &mut [u8]) -> Written
     ensures { λ r. ⌜ outcomeOf r ≡ writeOutcome sha256 (jobOf job (now (label .entry)) (now (rankings .entry)) (now (draws .entry))) (length (now (out .entry))) ⌝ }
     ensures { λ r. ⌜ r .order ≡ orderWritten (writeOutcome sha256 (jobOf job (now (label .entry)) (now (rankings .entry)) (now (draws .entry))) (length (now (out .entry)))) ⌝ }
     ensures { λ _. ⌜ now (out .exit) ≡ writeOutput sha256 (jobOf job (now (label .entry)) (now (rankings .entry)) (now (draws .entry))) (now (out .entry)) ⌝ }
 {
-    let n = job.n;
-    let k = job.k;
-    if !parameters::sizes_good(n, k) {
-        return refused(Refusal::Sizes, 0);
-    }
-    if !parameters::orders_good(n, k, job.p, job.q) {
-        return refused(Refusal::Orders, 0);
-    }
-    let g = tests::group_of(job, label);
-    if !tests::label_good(label, job.counter, g) {
-        return refused(Refusal::Generators, 0);
-    }
-    if rankings.len() != k * n {
-        return refused(Refusal::Rankings, 0);
-    }
-    let bad = rankings::first_bad(rankings, n, k);
-    if 0 < bad {
-        return refused(Refusal::Rankings, bad);
-    }
-    let m = plain::rounds::measure_of(rankings, n, k);
+    let tested = tests::up_to_rankings(job, label, rankings);
+    let g = match tested {
+        Tested::Sound(g) => g,
+        Tested::Refused(refusal, which) => return refused(refusal, which),
+    };
+    let m = plain::rounds::measure_of(rankings, job.n, job.k);
     if !tests::draws_good(draws, m.needed, job.q) {
         return refused(Refusal::Draws, 0);
     }
-    let length = m.length;
-    if out.len() < length {
-        return refused(Refusal::Output, 0);
-    }
-    let order = m.order;
     let size = Size {
-        n,
-        k,
+        n: job.n,
+        k: job.k,
         counter: job.counter,
     };
-    boards::rounds::write_board(
-        out,
-        label,
-        Setup::new(g),
-        size,
-        rankings,
-        draws,
-        order,
-        m.rounds,
-    );
-    Written {
-        reply: Reply::Board {
-            length,
-            rounds: m.rounds,
-            winner: m.winner,
-        },
-        order,
+    if !put_board(out, label, Setup::new(g), size, rankings, draws, m) {
+        return refused(Refusal::Output, 0);
     }
+    board_written(m)
 }

@@ -1,10 +1,12 @@
-// The tests of a job's label, its draws, and the group that it fixes.
+// The tests of a job, and the group that it fixes.
 use crate::Job;
 use group::Group;
+use plain::rankings;
+use rules::Refusal;
 ghost use mathlib.Core.Path.{_≡_};
 ghost use mathlib.Core.Bool.{_&&_};
-ghost use mathlib.Core.List.{[]};
-ghost use Prim.Native.Nat.{_<_};
+ghost use mathlib.Core.List.{List, []};
+ghost use Prim.Native.Nat.{ℕ, _<_};
 ghost use lib.Dec.{leb, ltb, eqb};
 ghost use lib.ListN.{length, getD};
 ghost use Rattle.numbers.specs.Below.{allBelow};
@@ -13,6 +15,13 @@ ghost use Rattle.group.specs.Elements.{parametersOf};
 ghost use Rattle.rules.specs.Group.{generators};
 ghost use Rattle.jobs.specs.Job.{groupOf};
 ghost use Rattle.writer.specs.Jobs.{jobOf};
+ghost use Rattle.writer.specs.Steps.{Told};
+
+// What the tests up to the rankings come to: the group, or the refusal and which.
+pub enum Tested {
+    Sound(Group),
+    Refused(Refusal, usize),
+}
 
 // The group of a job, g1 worked out.
 pub fn group_of(job: Job, label: &[u8]) -> Group
@@ -38,6 +47,32 @@ pub fn label_good(label: &[u8], counter: u8, g: Group) -> bool
         return false;
     }
     parameters::generators_good(label, counter, g)
+}
+
+// The tests up to the rankings, in their order.
+pub fn up_to_rankings(job: Job, label: &[u8], rankings: &[u8]) -> Tested
+    ensures { λ r. ⌜ ((draws : List ℕ) → Told (jobOf job (now (label .entry)) (now (rankings .entry)) draws) r) ⌝ }
+{
+    let n = job.n;
+    let k = job.k;
+    if !parameters::sizes_good(n, k) {
+        return Tested::Refused(Refusal::Sizes, 0);
+    }
+    if !parameters::orders_good(n, k, job.p, job.q) {
+        return Tested::Refused(Refusal::Orders, 0);
+    }
+    let g = group_of(job, label);
+    if !label_good(label, job.counter, g) {
+        return Tested::Refused(Refusal::Generators, 0);
+    }
+    if rankings.len() != k * n {
+        return Tested::Refused(Refusal::Rankings, 0);
+    }
+    let bad = rankings::first_bad(rankings, n, k);
+    if 0 < bad {
+        return Tested::Refused(Refusal::Rankings, bad);
+    }
+    Tested::Sound(g)
 }
 
 // Whether so many draws are there, each from 1 to q - 1.

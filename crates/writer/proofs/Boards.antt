@@ -1,0 +1,125 @@
+-- The board that is written is the job's. Assumes nothing.
+use Prim.Native.Nat.{ℕ, _*_, _-_, _≤_}
+use mathlib.Core.Path.{_≡_, sym, ap, subst, _∙_}
+use mathlib.Core.Bool.{and-eq-true-iff}
+use mathlib.Core.List.{List, _++_}
+use native.Mathlib.Omega.{arith}
+use borrow.Author.Tests.{eqb-true, leb-true}
+use lib.Dec.{leb, eqb}
+use lib.ListN.{length, take, drop, length-append}
+use Rattle.numbers.specs.Below.{blocks}
+use Rattle.sha256.specs.Message.{sha256}
+use Rattle.group.specs.Elements.{Parameters}
+use Rattle.rules.specs.Answers.{padded}
+use Rattle.rules.specs.Records.{roundAt}
+use Rattle.jobs.specs.Job.{Job, groupOf, needed, boardLength, plainResult, roundDraws}
+use Rattle.jobs.specs.Board.{headerBytes, boardBytes, board}
+use Rattle.jobs.specs.Write.{boardWritten, writeOutcome, writeOutput}
+use Rattle.jobs.specs.Replies.{outcomeOf}
+use Rattle.jobs.specs.declared.Written.{Written}
+use Rattle.whole.specs.ThirdDemand.{Valid}
+use Rattle.whole.proofs.Orders.{orders-of-test}
+use Rattle.whole.proofs.Complete.FineJob.{fine, good-group, no-refusal}
+use Rattle.plain.specs.Measures.{Measured}
+use Rattle.plain.specs.declared.rounds.Measure.{Measure}
+use Rattle.output.specs.Written.{written}
+use Rattle.boards.specs.declared.Size.{Size}
+use Rattle.boards.specs.Parts.{boardJob, Able, roundOf}
+use Rattle.boards.proofs.Walk.{rounds-are, few-rounds, order-long, goes-out, left, struck-below}
+use Rattle.boards.proofs.Stages.{length-rounds, length-header, place-least}
+use Rattle.boards.proofs.Turns.{front-of}
+use Rattle.writer.specs.Steps.{bytesOf}
+use Rattle.writer.proofs.Outcomes.{Answered}
+
+abbrev size : Job → Size
+size job = record { n = job .n; k = job .K; counter = job .counter }
+
+-- the bytes that the code writes for a job
+abbrev pub bytesFor : Job → Parameters → (order : List ℕ) (rounds : ℕ) → List ℕ
+bytesFor job g order rounds = bytesOf (size job) g (job .label) (job .rankings) (job .draws) order rounds
+
+written-at : (w o : List ℕ) (k : ℕ) → length w ≡ k → written w o ≡ w ++ drop k o
+unfolding written
+written-at w o k e = rw e
+
+module _ (job : Job) (v : Valid sha256 job) where
+  many : 2 ≤ job .n
+  many = fine sha256 job v .n-low
+
+  able : (order : List ℕ) (rounds : ℕ) → order ≡ padded (plainResult job .order) → rounds ≡ plainResult job .rounds → roundDraws (job .n) (job .K) rounds ≤ 10000000 → Able job order rounds
+  unfolding needed
+  able order rounds eo er low =
+      let f = fine sha256 job v in
+      let w = and-eq-true-iff (leb (needed job) (length (job .draws))) _ .0 (v .drawn) in
+      let d = and-eq-true-iff (eqb (length (job .rankings)) (job .K * job .n)) _ .0 (v .ranked) in
+      let enough : needed job ≤ length (job .draws) = leb-true _ _ (w .0) in
+      let q = orders-of-test (job .n) (job .K) (job .p) (job .q) (f .ordered) .prime-q .large in
+      let g = good-group sha256 job f in
+      rw (eo, er)
+      (record {
+        n-low = f .n-low;
+        n-high = f .n-high;
+        K-low = f .K-low;
+        K-high = f .K-high;
+        listed = eqb-true _ _ (d .0);
+        few = few-rounds sha256 job (groupOf sha256 job) many;
+        drawn =
+            record {
+              positive = omega arith;
+              low = omega (arith, g .small, g .q-below);
+              near = omega (arith, rw er at low);
+              enough = omega arith;
+              below = λ i h. f .drawn i (omega arith) .1;
+            };
+        low = rw er at low;
+        struck = λ j h. goes-out sha256 job (groupOf sha256 job) many j h .0;
+        above = λ j h. goes-out sha256 job (groupOf sha256 job) many j h .1 .low;
+        below = λ j h. goes-out sha256 job (groupOf sha256 job) many j h .1 .high;
+        left = λ j k h b. left sha256 job (groupOf sha256 job) many (f .ranked) j h k b;
+        place = λ j k h b. struck-below sha256 job (groupOf sha256 job) many (f .ranked) j h k b;
+      })
+
+  -- the bytes that were written are the board
+  abbrev made : List ℕ
+  made = bytesFor job (groupOf sha256 job) (padded (plainResult job .order)) (plainResult job .rounds)
+
+  is-board : made ≡ board sha256 job
+  unfolding board boardBytes
+  is-board = ap (λ (x : List ℕ). headerBytes sha256 job (groupOf sha256 job) ++ x) (sym (rounds-are sha256 job (groupOf sha256 job) many))
+
+  made-long : length (made) ≡ boardLength job
+  unfolding boardLength
+  made-long =
+      let G = groupOf sha256 job in
+      let B = blocks (plainResult job .rounds) (roundOf sha256 job G (padded (plainResult job .order))) in
+      let head : length (headerBytes sha256 job G) ≡ 54 = length-header (job .label) (fine sha256 job v .labelled) in
+      omega (arith, length-append (headerBytes sha256 job G) B, length-rounds sha256 job G (padded (plainResult job .order)) (plainResult job .rounds))
+
+  -- the order is read back from the array
+  order-back : (order : List ℕ) (rounds : ℕ) → order ≡ padded (plainResult job .order) → rounds ≡ plainResult job .rounds → take (rounds - 1) order ≡ plainResult job .order
+  order-back order rounds eo er = rw (eo, er) (front-of (plainResult job .order) (plainResult job .rounds - 1) (order-long sha256 job (groupOf sha256 job) many))
+
+  -- by the measure of the job, and a group that is its own
+  module _ (m : Measure) (w : Measured (job .n) (job .K) (plainResult job) m) (g : Parameters) (e : g ≡ groupOf sha256 job) where
+    pub can : Able (boardJob (size job) g (job .label) (job .rankings) (job .draws)) (m .order) (m .rounds)
+    can =
+        subst (λ (x : Parameters). Able (boardJob (size job) x (job .label) (job .rankings) (job .draws)) (m .order) (m .rounds)) (sym e)
+        (able (m .order) (m .rounds) (w .order) (w .rounds) (rw (w .rounds, ← (w .needed)) (w .small)))
+
+    pub room : (54 ≤ m .length) × (roundAt (job .n) (job .K) (m .rounds) ≤ m .length)
+    room = let long : roundAt (job .n) (job .K) (m .rounds) ≡ m .length = rw (w .rounds) (sym (w .length)) in (omega (arith, place-least (job .n) (job .K) (m .rounds)), omega arith)
+
+    -- past the board the output is as it was
+    wrote : (o : List ℕ) → written (bytesFor job g (m .order) (m .rounds)) o ≡ board sha256 job ++ drop (boardLength job) o
+    wrote o =
+        let same : bytesFor job g (m .order) (m .rounds) ≡ board sha256 job = (λ i. bytesFor job (e i) (w .order i) (w .rounds i)) ∙ is-board in
+        ap (λ (x : List ℕ). written x o) same ∙ written-at (board sha256 job) o (boardLength job) (ap length (sym is-board) ∙ made-long)
+
+    pub writes : (o o' : List ℕ) (r : Written) → (m .length ≤ length o) × (o' ≡ written (bytesFor job g (m .order) (m .rounds)) o) →
+        (outcomeOf r ≡ boardWritten (m .length) (m .rounds) (take (m .rounds - 1) (m .order)) (m .winner)) × (r .order ≡ m .order) → Answered job o o' r
+    unfolding boardLength writeOutcome writeOutput
+    writes o o' r p t =
+        let none = no-refusal sha256 job (length o) v (omega (arith, w .length)) in
+        let same : boardWritten (m .length) (m .rounds) (take (m .rounds - 1) (m .order)) (m .winner) ≡ boardWritten (boardLength job) (plainResult job .rounds) (plainResult job .order) (plainResult job .winner) =
+        λ i. boardWritten (w .length i) (w .rounds i) (order-back (m .order) (m .rounds) (w .order) (w .rounds) i) (w .winner i) in
+        (rw none (t .0 ∙ same), (rw none (t .1 ∙ w .order), rw none (p .1 ∙ wrote o)))

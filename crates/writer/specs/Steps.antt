@@ -1,0 +1,46 @@
+-- What the writer's steps come to.
+use Prim.Native.Nat.{ℕ, _≤_, _<_}
+use mathlib.Core.Path.{_≡_}
+use mathlib.Core.Bool.{Bool, true, false}
+use mathlib.Core.List.{List, _++_}
+use lib.ListN.{length}
+use Rattle.numbers.specs.Below.{blocks}
+use Rattle.sha256.specs.Message.{sha256}
+use Rattle.group.specs.Elements.{Parameters, parametersOf}
+use Rattle.rules.specs.Answers.{refusalNumber}
+use Rattle.rules.specs.Group.{sizes, orders}
+use Rattle.jobs.specs.Job.{Job, groupOf}
+use Rattle.jobs.specs.Board.{headerBytes}
+use Rattle.jobs.specs.Write.{labelGood, rankingsGood, jobRefused, writeOutcome, writeOutput}
+use Rattle.output.specs.Written.{written}
+use Rattle.boards.specs.Parts.{boardJob, roundOf}
+use Rattle.boards.specs.declared.Size.{Size}
+use Rattle.writer.specs.declared.tests.Tested.{Tested}
+use Rattle.writer.specs.declared.tests.Tested.the-variants.{Sound, Refused}
+
+-- the job is refused with a number and which, and the output stays as it is
+pub record Stops (job : Job) (out : List ℕ) (number which : ℕ) : Type 0 where
+  pub outcome : writeOutcome sha256 job (length out) ≡ jobRefused number which
+  pub output : writeOutput sha256 job out ≡ out
+
+-- none of 3, 4, 5 and 13 is due
+pub record Passed (job : Job) : Type 0 where
+  pub sized : sizes (job .n) (job .K) ≡ true
+  pub ordered : orders (job .n) (job .K) (job .p) (job .q) ≡ true
+  pub labelled : labelGood sha256 job ≡ true
+  pub ranked : rankingsGood job ≡ true
+
+-- what the tests up to the rankings tell: the job's group, or the refusal, whatever the output
+unfoldable pub Told : Job → Tested → Type 0
+Told job (Sound g) = Passed job × (parametersOf g ≡ groupOf sha256 job)
+Told job (Refused refusal k) = (out : List ℕ) → Stops job out (refusalNumber refusal) k
+
+-- the bytes of a board of so many rounds, in whose rounds processes go out in an order
+abbrev pub bytesOf : Size → Parameters → (label rankings draws order : List ℕ) (rounds : ℕ) → List ℕ
+bytesOf size g label rankings draws order rounds =
+    headerBytes sha256 (boardJob size g label rankings draws) g ++ blocks rounds (roundOf sha256 (boardJob size g label rankings draws) g order)
+
+-- the output has room for so many bytes, and they are written; or it has not, and stays as it is
+abbrev pub Put : (size : ℕ) (bytes before after : List ℕ) → Bool → Type 0
+Put size bytes before after true = (size ≤ length before) × (after ≡ written bytes before)
+Put size bytes before after false = (length before < size) × (after ≡ before)
