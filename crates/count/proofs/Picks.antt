@@ -1,15 +1,15 @@
--- The lowest, the highest and the majority, one process at a time. Assumes nothing.
+-- The pick and the majority, one process at a time. Assumes nothing.
 use Prim.Native.Nat.{ℕ, suc, _+_, _-_, _≤_, _<_}
 use mathlib.Core.Path.{_≡_, refl, sym, _∙_}
 use mathlib.Core.Bool.{Bool, true, false, cond, _||_}
 use mathlib.Core.List.{List, map-append}
 use native.Mathlib.Numerals.{add-one}
 use native.Mathlib.Omega.{arith}
-use lib.Dec.{eqb, leb, ltb}
+use lib.Dec.{eqb}
 use lib.ListN.{length, getD, take, drop, set, replicate, length-map, length-set}
 use lib.Seq.{getD-take, length-take-le, take-suc-set, drop-set-lt, drop-drop}
 use Rattle.rules.specs.Count.{Standing, member, lowest, highest, countOf, leaves, next}
-use Rattle.count.specs.State.{lower, higher, passes, countsOn, listOf, standingOf, Kept}
+use Rattle.count.specs.State.{preferred, picked, pick, passes, countsOn, listOf, standingOf, Kept}
 use Rattle.count.specs.declared.Count.{Count}
 use Rattle.count.specs.declared.Sheet.{Sheet}
 
@@ -18,11 +18,13 @@ small true b best i h = omega arith
 small false true best i h = omega arith
 small false false best i h = omega arith
 
-pub lower-small : (out : Bool) (best i : ℕ) (counts : List ℕ) → best ≤ i → lower out best i counts ≤ i + 1
-lower-small out best i counts = small out (eqb best 0 || leb (getD counts i 0) (getD counts (best - 1) 0)) best i
+pub picked-small : (least out : Bool) (best i : ℕ) (counts : List ℕ) → best ≤ i → picked least out best i counts ≤ i + 1
+picked-small least out best i counts = small out (eqb best 0 || preferred least (getD counts i 0) (getD counts (best - 1) 0)) best i
 
-pub higher-small : (out : Bool) (best i : ℕ) (counts : List ℕ) → best ≤ i → higher out best i counts ≤ i + 1
-higher-small out best i counts = small out (eqb best 0 || ltb (getD counts (best - 1) 0) (getD counts i 0)) best i
+pub pick-none : (least : Bool) (st : Standing) (counts : List ℕ) → 0 ≡ pick least st counts 0
+unfolding lowest highest
+pick-none true st counts = refl
+pick-none false st counts = refl
 
 module _ (n : ℕ) (arr : List ℕ) (i : ℕ) (h : i < n) where
   this-count : countOf (take n arr) (suc i) ≡ getD arr i 0
@@ -32,15 +34,11 @@ module _ (n : ℕ) (arr : List ℕ) (i : ℕ) (h : i < n) where
   that-count best b = getD-take n arr (best - 1) 0 (omega arith)
 
 module _ (n : ℕ) (st : Standing) (arr : List ℕ) (i : ℕ) (h : i < n) where
-  pub lowest-more : (best : ℕ) → best ≤ i → best ≡ lowest st (take n arr) i →
-      lower (member (i + 1) (st .gone)) best i arr ≡ lowest st (take n arr) (i + 1)
-  unfolding lowest
-  lowest-more best b e = rw (add-one i, ← e, this-count n arr i h, that-count n arr i h best b)
-
-  pub highest-more : (best : ℕ) → best ≤ i → best ≡ highest st (take n arr) i →
-      higher (member (i + 1) (st .gone)) best i arr ≡ highest st (take n arr) (i + 1)
-  unfolding highest
-  highest-more best b e = rw (add-one i, ← e, this-count n arr i h, that-count n arr i h best b)
+  pub pick-more : (least : Bool) (best : ℕ) → best ≤ i → best ≡ pick least st (take n arr) i →
+      picked least (member (i + 1) (st .gone)) best i arr ≡ pick least st (take n arr) (i + 1)
+  unfolding lowest highest
+  pick-more true best b e = rw (add-one i, ← e, this-count n arr i h, that-count n arr i h best b)
+  pick-more false best b e = rw (add-one i, ← e, this-count n arr i h, that-count n arr i h best b)
 
 module _ (n : ℕ) (gone : List ℕ) (arr : List ℕ) (i : ℕ) (h : i < n) where
   pub passes-is : (K : ℕ) → passes (member (i + 1) gone) (getD arr i 0) K ≡ passes (member (suc i) gone) (countOf (take n arr) (suc i)) K

@@ -5,7 +5,7 @@ use mathlib.Core.List.{List, map}
 use mathlib.Core.Bool.{Bool, cond, not, _&&_, _||_}
 use lib.Dec.{eqb, leb, ltb}
 use lib.ListN.{length, getD, take, drop, replicate}
-use Rattle.rules.specs.Count.{Standing}
+use Rattle.rules.specs.Count.{Standing, lowest, highest}
 use Rattle.count.specs.declared.Sheet.{Sheet}
 use Rattle.count.specs.declared.Gone.{Gone}
 use Rattle.count.specs.declared.Count.{Count}
@@ -32,12 +32,18 @@ pub record Kept (c : Count) : Type 0 where
   pub listed : Listed (c .gone)
   pub sheets-long : length (c .sheets) ≡ 8
 
--- the pick among the first i + 1, from the pick among the first i
-abbrev pub lower : (out : Bool) (best i : ℕ) (counts : List ℕ) → ℕ
-lower out best i counts = cond out best (cond (eqb best 0 || leb (getD counts i 0) (getD counts (best - 1) 0)) (i + 1) best)
+-- a process with this count is picked before one of a lower number with that
+abbrev pub preferred : (least : Bool) (this that : ℕ) → Bool
+preferred least this that = cond least (leb this that) (ltb that this)
 
-abbrev pub higher : (out : Bool) (best i : ℕ) (counts : List ℕ) → ℕ
-higher out best i counts = cond out best (cond (eqb best 0 || ltb (getD counts (best - 1) 0) (getD counts i 0)) (i + 1) best)
+-- the pick among the first i + 1, from the pick among the first i
+abbrev pub picked : (least out : Bool) (best i : ℕ) (counts : List ℕ) → ℕ
+picked least out best i counts =
+    cond out best (cond (eqb best 0 || preferred least (getD counts i 0) (getD counts (best - 1) 0)) (i + 1) best)
+
+-- who leaves, or else who wins, among the first i
+abbrev pub pick : (least : Bool) → Standing → (counts : List ℕ) (i : ℕ) → ℕ
+pick least st counts i = cond least (lowest st counts i) (highest st counts i)
 
 abbrev pub passes : (out : Bool) (votes K : ℕ) → Bool
 passes out votes K = not out && ltb K (2 * votes)

@@ -2,7 +2,7 @@
 ghost use mathlib.Core.Path.{_≡_};
 ghost use Prim.Native.Nat.{ℕ, _+_, _*_, _≤_, _<_};
 ghost use Rattle.rules.specs.Count.{member, start, next, leaves, wins, closes, majority};
-ghost use Rattle.count.specs.State.{countsOn, listOf, standingOf, Listed, Kept, lower, higher, passes};
+ghost use Rattle.count.specs.State.{countsOn, listOf, standingOf, Listed, Kept, preferred, picked, pick, passes};
 
 // The counts of a round, by process.
 pub struct Sheet {
@@ -33,30 +33,20 @@ fn wide64(x: u32) -> u64
     x as u64
 }
 
-// The pick of leaves among the first i + 1 processes, from the one among the first i; out: whether process i + 1 has gone out.
-fn lower(out: bool, best: usize, i: usize, sheet: Sheet) -> usize
-    requires { ⌜ (i < 8) × (best ≤ 8) ⌝ }
-    ensures { λ r. ⌜ r ≡ lower out best i (sheet .counts) ⌝ }
+// Whether a process with this count is picked before one with that: of the least, where it is no higher; of the most, where it is higher.
+fn preferred(least: bool, this: u32, that: u32) -> bool
+    ensures { λ r. ⌜ r ≡ preferred least this that ⌝ }
 {
-    let counts = sheet.counts;
-    if out {
-        return best;
+    if least {
+        return this <= that;
     }
-    if best == 0 {
-        return i + 1;
-    }
-    let this = counts[i];
-    let that = counts[best - 1];
-    if this <= that {
-        return i + 1;
-    }
-    best
+    that < this
 }
 
-// The same for the pick of wins.
-fn higher(out: bool, best: usize, i: usize, sheet: Sheet) -> usize
+// The pick among the first i + 1 processes, from the one among the first i; out: whether process i + 1 has gone out.
+fn picked(least: bool, out: bool, best: usize, i: usize, sheet: Sheet) -> usize
     requires { ⌜ (i < 8) × (best ≤ 8) ⌝ }
-    ensures { λ r. ⌜ r ≡ higher out best i (sheet .counts) ⌝ }
+    ensures { λ r. ⌜ r ≡ picked least out best i (sheet .counts) ⌝ }
 {
     let counts = sheet.counts;
     if out {
@@ -65,9 +55,7 @@ fn higher(out: bool, best: usize, i: usize, sheet: Sheet) -> usize
     if best == 0 {
         return i + 1;
     }
-    let this = counts[i];
-    let that = counts[best - 1];
-    if that < this {
+    if preferred(least, counts[i], counts[best - 1]) {
         return i + 1;
     }
     best
@@ -114,18 +102,26 @@ impl Count {
         }
     }
 
-    // The process still in with the lowest count, highest number among equals; 0 where none is in.
-    pub fn leaves(self, sheet: Sheet, n: usize) -> usize
+    // The process still in with the least or with the most votes; 0 where none is in.
+    fn pick(self, least: bool, sheet: Sheet, n: usize) -> usize
         requires { ⌜ Kept self × (n ≤ 8) ⌝ }
-        ensures { λ r. ⌜ (r ≡ leaves n (standingOf n self) (countsOn n sheet)) × (r ≤ n) ⌝ }
+        ensures { λ r. ⌜ (r ≡ pick least (standingOf n self) (countsOn n sheet) n) × (r ≤ n) ⌝ }
     {
         let gone = self.gone;
         let given = sheet;
         let mut best = 0;
         for i in 0..n {
-            best = lower(gone.is_out(i + 1), best, i, given);
+            best = picked(least, gone.is_out(i + 1), best, i, given);
         }
         best
+    }
+
+    // The process still in with the lowest count, highest number among equals; 0 where none is in.
+    pub fn leaves(self, sheet: Sheet, n: usize) -> usize
+        requires { ⌜ Kept self × (n ≤ 8) ⌝ }
+        ensures { λ r. ⌜ (r ≡ leaves n (standingOf n self) (countsOn n sheet)) × (r ≤ n) ⌝ }
+    {
+        self.pick(true, sheet, n)
     }
 
     // The process still in with the highest count, lowest number among equals; 0 where none is in.
@@ -133,13 +129,7 @@ impl Count {
         requires { ⌜ Kept self × (n ≤ 8) ⌝ }
         ensures { λ r. ⌜ (r ≡ wins n (standingOf n self) (countsOn n sheet)) × (r ≤ n) ⌝ }
     {
-        let gone = self.gone;
-        let given = sheet;
-        let mut best = 0;
-        for i in 0..n {
-            best = higher(gone.is_out(i + 1), best, i, given);
-        }
-        best
+        self.pick(false, sheet, n)
     }
 
     // A process still in has more than half.
