@@ -16,7 +16,7 @@ use Rattle.whole.proofs.Complete.Matrices.{SameMatrix, entry-same}
 use Rattle.proving.specs.declared.Plan.{Plan}
 use Rattle.proving.specs.Plans.{Spread, Drawn, Planned, proofOf}
 use Rattle.proving.proofs.Same.{proof-same, length-proof}
-use Rattle.ballots.specs.Parts.{matrixOf, opened, lineProof, entryOf, rowOf, columnOf}
+use Rattle.ballots.specs.Parts.{matrixOf, opened, lineProof, entryOf, lineOf}
 
 pub spread-part : (q : ℕ) (draws : List ℕ) (from total at count : ℕ) → Spread q draws from total → at + count ≤ from + total → Spread q draws at count
 spread-part q draws from total at count s h =
@@ -24,10 +24,6 @@ spread-part q draws from total at count s h =
 
 pub cells : (n : ℕ) → n ≤ 8 → n * n ≤ 64
 cells n h = let u : n * n ≤ 8 * n = mul-le-mul-right n h in omega arith
-
--- a row's end is within the matrix
-pub row-within : (n i : ℕ) → i < n → i * n + n ≤ n * n
-row-within n i h = let u : (i + 1) * n ≤ n * n = mul-le-mul-right n (omega arith) in omega arith
 
 abbrev pub planOf : (b s v from : ℕ) → Plan
 planOf b s v from = record { branches = b; statements = s; known = v; from = from }
@@ -82,10 +78,6 @@ pub length-entry : (label : List ℕ) (g : Parameters) (n : ℕ) (list : ℕ →
 unfolding entryOf
 length-entry label g n list draws from i j = length-proof sha256 label g _
 
-pub length-row : (label : List ℕ) (g : Parameters) (n : ℕ) (M : Matrix) (draws : List ℕ) (from i : ℕ) → length (rowOf label g n M draws from i) ≡ 16
-unfolding rowOf
-length-row label g n M draws from i = length-proof sha256 label g _
-
-pub length-column : (label : List ℕ) (g : Parameters) (n : ℕ) (M : Matrix) (draws : List ℕ) (from i : ℕ) → length (columnOf label g n M draws from i) ≡ 16
-unfolding columnOf
-length-column label g n M draws from i = length-proof sha256 label g _
+pub length-line : (label : List ℕ) (g : Parameters) (n : ℕ) (M : Matrix) (draws : List ℕ) (from t : ℕ) → length (lineOf label g n M draws from t) ≡ 16
+unfolding lineOf
+length-line label g n M draws from t = length-proof sha256 label g _

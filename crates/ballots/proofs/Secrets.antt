@@ -4,7 +4,7 @@ use mathlib.Core.Path.{_≡_, _∙_}
 use mathlib.Core.Bool.{cond}
 use mathlib.Core.Logic.{⊎-elim}
 use mathlib.Core.List.{List}
-use native.Mathlib.Nat.{mod-lt, div-lt-iff-lt-mul, eq-or-lt-of-le, mul-le-mul-left, mul-le-mul-right, mod-mod, div-add-mod'}
+use native.Mathlib.Nat.{mod-lt, div-lt-iff-lt-mul, eq-or-lt-of-le, mul-le-mul-left, mod-mod, div-add-mod'}
 use native.Mathlib.Numerals.{add-one}
 use native.Mathlib.Omega.{arith}
 use borrow.Author.Tests.{eq-eqb, ne-eqb}
@@ -14,8 +14,10 @@ use lib.Seq.{getD-set-same, getD-set-other}
 use Rattle.numbers.specs.Below.{sumBelow}
 use Rattle.numbers.proofs.Sums.{sum-same}
 use Rattle.rules.specs.Claims.{source}
+use Rattle.statements.specs.Lines.{lineStart, lineStride}
+use Rattle.statements.proofs.Lines.{by-row, by-column, row-or-column, row-below, row-cell, column-cell}
 use Rattle.whole.proofs.Complete.WrittenShift.{source-below}
-use Rattle.ballots.specs.Parts.{drawn, sumBut, witnessOf, Witnessed}
+use Rattle.ballots.specs.Parts.{drawn, lineSum, sumBut, witnessOf, Witnessed}
 
 module _ (draws : List ℕ) (at stride but i sum : ℕ) (e : sum ≡ sumBut draws at stride i but) where
   pub sum-more : (i ≡ but → ⊥) → sum + getD draws (at + stride * i) 0 ≡ sumBut draws at stride (i + 1) but
@@ -29,19 +31,18 @@ module _ (draws : List ℕ) (at stride but i sum : ℕ) (e : sum ≡ sumBut draw
 pub stride-up : (stride i count : ℕ) → i < count → stride * i ≤ stride * (count - 1)
 stride-up stride i count h = mul-le-mul-left stride (omega arith)
 
-pub row-sum : (draws : List ℕ) (from n i : ℕ) → sumBut draws (from + i * n) 1 n n ≡ sumBelow n (λ j. drawn draws from n i j)
+-- the secrets of a line
+pub line-sum : (draws : List ℕ) (from n t : ℕ) →
+    sumBut draws (from + lineStart n t) (lineStride n t) n n ≡ lineSum draws from n t
 unfolding sumBut
-row-sum draws from n i =
-    sum-same n _ _ (λ j h.
-    let e : from + i * n + 1 * j ≡ from + (i * n + j) = omega arith in
-    rw (ne-eqb j n (λ e. omega arith), e))
-
-pub column-sum : (draws : List ℕ) (from n j : ℕ) → sumBut draws (from + j) n n n ≡ sumBelow n (λ i. drawn draws from n i j)
-unfolding sumBut
-column-sum draws from n j =
-    sum-same n _ _ (λ i h.
-    let e : from + j + n * i ≡ from + (i * n + j) = omega arith in
-    rw (ne-eqb i n (λ e. omega arith), e))
+line-sum draws from n t =
+    let row : ℕ → ℕ = λ i. sumBelow n (λ j. drawn draws from n i j) in
+    let column : ℕ → ℕ = λ j. sumBelow n (λ i. drawn draws from n i j) in
+    row-or-column n t
+    (λ h. rw (by-row n row column t h)
+    (sum-same n _ _ (λ j l. let e : from + lineStart n t + lineStride n t * j ≡ from + (t * n + j) = omega (arith, row-cell n t j h) in rw (ne-eqb j n (λ e. omega arith), e))))
+    (λ h. rw (by-column n row column t h)
+    (sum-same n _ _ (λ i l. let e : from + lineStart n t + lineStride n t * i ≡ from + (i * n + (t - n)) = omega (arith, column-cell n t i h) in rw (ne-eqb i n (λ e. omega arith), e))))
 
 -- the witnesses, one by one
 module _ (q n : ℕ) (draws : List ℕ) (old new a l : ℕ) where
@@ -75,13 +76,9 @@ module _ (q n : ℕ) (draws : List ℕ) (old new a l : ℕ) where
   pub witnessed-none : (s : List ℕ) → length s ≡ 64 → Witnessed q n draws old new a l 0 s
   witnessed-none s e = record { long = e; each = λ i h. absurd (omega arith) }
 
--- a row of the matrix before is within it
-pub within : (n rows l : ℕ) → l < rows → l * n + n ≤ rows * n
-within n rows l h = let u : (l + 1) * n ≤ rows * n = mul-le-mul-right n (omega arith) in omega arith
-
 -- the pair before that a new pair comes from is within the matrix before
 pub source-within : (n rows l c : ℕ) → 0 < n → c < rows * n → source l (c / n) * n + c % n < (rows + 1) * n
 source-within n rows l c some h =
     let low : c / n < rows = div-lt-iff-lt-mul some .1 h in
-    let w : source l (c / n) * n + n ≤ (rows + 1) * n = within n (rows + 1) (source l (c / n)) (source-below l (c / n) rows low) in
+    let w : source l (c / n) * n + n ≤ (rows + 1) * n = row-below (rows + 1) n (source l (c / n)) (source-below l (c / n) rows low) in
     omega (arith, mod-lt c some)

@@ -13,6 +13,7 @@ use Rattle.group.specs.Elements.{Parameters}
 use Rattle.rules.specs.Group.{paired}
 use Rattle.rules.specs.Proofs.{Statement}
 use Rattle.rules.specs.Claims.{Matrix, entryClaim, rowClaim, columnClaim, shiftClaim, source}
+use Rattle.statements.specs.Lines.{byLine}
 use Rattle.jobs.specs.Prover.{Prover, proofBytes}
 use Rattle.proving.specs.Plans.{Spread}
 use Rattle.jobs.specs.Board.{pairBytes}
@@ -39,6 +40,10 @@ Paged page at rows n M = Stands page (at + 4) (pairBytes n M rows)
 -- the draws at a place and so many on, at a stride, but for one
 unfoldable pub sumBut : (draws : List ℕ) (at stride count but : ℕ) → ℕ
 sumBut draws at stride count but = sumBelow count (λ i. cond (eqb i but) 0 (getD draws (at + stride * i) 0))
+
+-- the secrets of row t, or of column t - n, joined
+abbrev pub lineSum : (draws : List ℕ) (from n t : ℕ) → ℕ
+lineSum draws from n t = byLine n t (λ i. sumBelow n (λ j. drawn draws from n i j)) (λ j. sumBelow n (λ i. drawn draws from n i j))
 
 -- the maker of a proof of two branches about one pair: it opens to v, and its secret is x
 abbrev pub entryMaker : Parameters → Matrix → (i j v x : ℕ) (draws : List ℕ) (from : ℕ) → Prover
@@ -68,6 +73,11 @@ module _ (label : List ℕ) (g : Parameters) (n : ℕ) where
 
   unfoldable pub columnOf : Matrix → (draws : List ℕ) (from j : ℕ) → List ℕ
   columnOf M draws from j = lineProof label g (columnClaim g n M j) (sumBelow n (λ i. drawn draws from n i j)) draws (from + 4 * (n * n) + n + j)
+
+  -- the proof of row t, or of column t - n
+  unfoldable pub lineOf : Matrix → (draws : List ℕ) (from t : ℕ) → List ℕ
+  lineOf M draws from t =
+      lineProof label g (byLine n t (rowClaim g n M) (columnClaim g n M)) (lineSum draws from n t) draws (from + 4 * (n * n) + t)
 
   -- what follows the pairs of a ballot
   unfoldable pub proofsOf : (list : ℕ → ℕ) (draws : List ℕ) (from : ℕ) → List ℕ

@@ -100,10 +100,8 @@ fn write_proofs(
 {
     let count = n * n;
     write_entries(out, label, g, n, list, page, draws, from);
-    let rows = 32 * count;
-    lines::write_rows(&mut out[rows..], label, g, page, n, draws, from);
-    let columns = rows + 16 * n;
-    lines::write_columns(&mut out[columns..], label, g, page, n, draws, from);
+    let lines = 32 * count;
+    lines::write_lines(&mut out[lines..], label, g, page, n, draws, from);
 }
 
 pub fn write_ballot(

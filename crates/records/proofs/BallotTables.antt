@@ -1,7 +1,7 @@
 -- The tests of the BA and SH records, at the place where the record starts. Assumes nothing.
 use Prim.Native.Nat.{ℕ, suc, _+_, _*_, _-_, _/_, _%_, _<_}
-use mathlib.Core.Path.{_≡_, _∙_}
-use mathlib.Core.Bool.{and-assoc}
+use mathlib.Core.Path.{_≡_, sym, _∙_}
+use mathlib.Core.Bool.{_&&_, and-assoc}
 use mathlib.Core.List.{List}
 use native.Mathlib.Nat.{mul-add-div-right, mul-add-mod-self-right, mod-eq-of-lt, div-eq-of-lt, add-zero}
 use native.Mathlib.Omega.{arith}
@@ -12,14 +12,15 @@ use Rattle.group.specs.Elements.{parametersOf}
 use Rattle.rules.specs.Bytes.{half}
 use Rattle.rules.specs.Records.{BA, SH, recordAt, recordLength, ballotLength, shiftLength}
 use Rattle.rules.specs.Proofs.{proofFields}
-use Rattle.rules.specs.Claims.{matrixAt, entryClaim}
+use Rattle.rules.specs.Claims.{matrixAt, entryClaim, rowClaim, columnClaim}
 use Rattle.rules.specs.Check.{recordFault, ballotFields, ballotProofs, shiftFields, shiftHolds, pairsGood}
 use Rattle.statements.specs.Walks.{pairFields}
+use Rattle.statements.proofs.Lines.{by-row, by-column-of, all-lines}
 use Rattle.records.specs.declared.Head.{Head}
 use Rattle.records.specs.Heads.{headOf}
 use Rattle.records.specs.Sizes.{ballotSize, shiftSize}
 use Rattle.records.proofs.Framing.{FiveTests}
-use Rattle.records.specs.Parts.{ballotFieldsAt, proofAt, entryGood, ballotProofsAt, shiftFieldsAt, shiftProofAt}
+use Rattle.records.specs.Parts.{ballotFieldsAt, proofAt, entryGood, lineGood, ballotProofsAt, shiftFieldsAt, shiftProofAt}
 
 row-of : (n i j : ℕ) → j < n → (i * n + j) / n ≡ i
 row-of n i j l = mul-add-div-right (omega arith) i j ∙ rw (div-eq-of-lt l) (add-zero i)
@@ -48,9 +49,18 @@ module _ (s : List ℕ) (h : Head) (k at : ℕ) (e : at ≡ recordAt (h .n) (h .
       (λ i li. all-same (h .n) _ (λ j. entryGood s h at (i * h .n + j)) (λ j lj. rw (row-of (h .n) i j lj, column-of (h .n) i j lj)))
       ∙ all-grid (h .n) (h .n) (entryGood s h at)
 
+  lines-are :
+      (allBelow (h .n) (λ i. proofAt s h (at + 4 + 40 * (h .n * h .n) + 16 * i) 1 1 (λ _ _. rowClaim (parametersOf (h .setup .group)) (h .n) (matrixAt s (h .n) at) i))
+      && allBelow (h .n) (λ j. proofAt s h (at + 4 + 40 * (h .n * h .n) + 16 * (h .n + j)) 1 1 (λ _ _. columnClaim (parametersOf (h .setup .group)) (h .n) (matrixAt s (h .n) at) j)))
+      ≡ allBelow (h .n + h .n) (lineGood s h at)
+  lines-are =
+      let row = rowClaim (parametersOf (h .setup .group)) (h .n) (matrixAt s (h .n) at) in
+      let column = columnClaim (parametersOf (h .setup .group)) (h .n) (matrixAt s (h .n) at) in
+      sym (all-lines (h .n) (lineGood s h at) _ _ (λ i l. rw (by-row (h .n) row column i l)) (λ j l. rw (by-column-of (h .n) row column j)))
+
   proofs-are : ballotProofs sha256 s (headOf s h) k ≡ ballotProofsAt s h at
   unfolding ballotProofs
-  proofs-are = rw (← e, entries-are)
+  proofs-are = rw (← e, entries-are, and-assoc, lines-are)
 
   pub ballot-table : (a : ℕ) →
       FiveTests s at (ballotSize (h .n)) BA (half s (at + 2)) (k + 1) (ballotFieldsAt s (h .n) (h .setup .group .p) (h .setup .group .q) at) (ballotProofsAt s h at)

@@ -11,6 +11,7 @@ use Rattle.rules.specs.Group.{paired}
 use Rattle.rules.specs.Bytes.{word, half, part}
 use Rattle.rules.specs.Claims.{matrixAt, entryClaim, rowClaim, columnClaim, shiftClaim}
 use Rattle.rules.specs.Proofs.{Statement, proofFields, proofHolds}
+use Rattle.statements.specs.Lines.{byLine}
 use Rattle.statements.specs.Walks.{pairsFields, proofsFields}
 use Rattle.records.specs.declared.Head.{Head}
 
@@ -30,18 +31,14 @@ entryGood s h at t =
     proofAt s h (at + 4 + 8 * (h .n * h .n) + 32 * t) 2 1
     (λ l _. entryClaim (parametersOf (h .setup .group)) (matrixAt s (h .n) at) (t / h .n) (t % h .n) l)
 
-abbrev pub rowGood : (s : List ℕ) (h : Head) (at i : ℕ) → Bool
-rowGood s h at i =
-    proofAt s h (at + 4 + 40 * (h .n * h .n) + 16 * i) 1 1 (λ _ _. rowClaim (parametersOf (h .setup .group)) (h .n) (matrixAt s (h .n) at) i)
-
-abbrev pub columnGood : (s : List ℕ) (h : Head) (at j : ℕ) → Bool
-columnGood s h at j =
-    proofAt s h (at + 4 + 40 * (h .n * h .n) + 16 * (h .n + j)) 1 1
-    (λ _ _. columnClaim (parametersOf (h .setup .group)) (h .n) (matrixAt s (h .n) at) j)
+-- row t, or column t - n
+abbrev pub lineGood : (s : List ℕ) (h : Head) (at t : ℕ) → Bool
+lineGood s h at t =
+    proofAt s h (at + 4 + 40 * (h .n * h .n) + 16 * t) 1 1
+    (λ _ _. byLine (h .n) t (rowClaim (parametersOf (h .setup .group)) (h .n) (matrixAt s (h .n) at)) (columnClaim (parametersOf (h .setup .group)) (h .n) (matrixAt s (h .n) at)))
 
 abbrev pub ballotProofsAt : (s : List ℕ) (h : Head) (at : ℕ) → Bool
-ballotProofsAt s h at =
-    allBelow (h .n * h .n) (entryGood s h at) && allBelow (h .n) (rowGood s h at) && allBelow (h .n) (columnGood s h at)
+ballotProofsAt s h at = allBelow (h .n * h .n) (entryGood s h at) && allBelow (h .n + h .n) (lineGood s h at)
 
 -- ---- SH: a is a column
 abbrev pub shiftFieldsAt : (s : List ℕ) (n p q at rows : ℕ) → Bool

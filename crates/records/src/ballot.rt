@@ -17,7 +17,7 @@ ghost use Rattle.statements.specs.Walks.{walkIf};
 ghost use Rattle.records.specs.Heads.{headOf, Known};
 ghost use Rattle.records.specs.Sizes.{ballotSize};
 ghost use Rattle.records.specs.Faults.{faultNumber};
-ghost use Rattle.records.specs.Parts.{ballotFieldsAt, entryGood, rowGood, columnGood, ballotProofsAt};
+ghost use Rattle.records.specs.Parts.{ballotFieldsAt, entryGood, lineGood, ballotProofsAt};
 
 pub fn ballot_size(n: usize) -> usize
     requires { ⌜ n ≤ 8 ⌝ }
@@ -65,34 +65,19 @@ fn entries_good(board: &[u8], h: Head, at: usize) -> bool
     true
 }
 
-fn rows_good(board: &[u8], h: Head, at: usize) -> bool
+// The proofs of the rows and the columns.
+fn lines_good(board: &[u8], h: Head, at: usize) -> bool
     requires { ⌜ Known (now board) h × (at + ballotSize (h .n) ≤ length (now board)) ⌝ }
-    ensures { λ r. ⌜ r ≡ allBelow (h .n) (rowGood (now (board .entry)) h at) ⌝ }
+    ensures { λ r. ⌜ r ≡ allBelow (h .n + h .n) (lineGood (now (board .entry)) h at) ⌝ }
 {
     let head = h;
     let n = h.n;
     let none = [0u32; 1];
     let first = at + 4 + 40 * (n * n);
-    for i in 0..n {
-        let claim = Claim::Row { at, i };
-        if !crate::proof_good(board, &none, first + 16 * i, 1, 1, head, claim) {
-            return false;
-        }
-    }
-    true
-}
-
-fn columns_good(board: &[u8], h: Head, at: usize) -> bool
-    requires { ⌜ Known (now board) h × (at + ballotSize (h .n) ≤ length (now board)) ⌝ }
-    ensures { λ r. ⌜ r ≡ allBelow (h .n) (columnGood (now (board .entry)) h at) ⌝ }
-{
-    let head = h;
-    let n = h.n;
-    let none = [0u32; 1];
-    let first = at + 4 + 40 * (n * n);
-    for j in 0..n {
-        let claim = Claim::Column { at, j };
-        if !crate::proof_good(board, &none, first + 16 * (n + j), 1, 1, head, claim) {
+    let count = n + n;
+    for t in 0..count {
+        let claim = Claim::Line { at, t };
+        if !crate::proof_good(board, &none, first + 16 * t, 1, 1, head, claim) {
             return false;
         }
     }
@@ -106,10 +91,7 @@ fn ballot_proofs(board: &[u8], h: Head, at: usize) -> bool
     if !entries_good(board, h, at) {
         return false;
     }
-    if !rows_good(board, h, at) {
-        return false;
-    }
-    columns_good(board, h, at)
+    lines_good(board, h, at)
 }
 
 // Ballot k's record, at its place.

@@ -1,5 +1,6 @@
 -- Laws that the proofs of `statements` cite.
 pub mod Reading
+pub mod Lines
 pub mod PlainClaims
 pub mod ShiftClaims
 pub mod Tables

@@ -1,8 +1,7 @@
 -- What each claim says, from the words that the code reads and the products that it makes. Assumes nothing.
-use Prim.Native.Nat.{ℕ, suc, _+_, _*_, _-_, _%_, _^_, _≤_, _<_}
+use Prim.Native.Nat.{ℕ, suc, _+_, _*_, _-_, _%_, _^_, _<_}
 use mathlib.Core.Path.{_≡_, ap, _∙_}
 use mathlib.Core.List.{List}
-use native.Mathlib.Nat.{mul-le-mul-right}
 use native.Mathlib.Omega.{arith}
 use Rattle.numbers.specs.Below.{prodBelow}
 use Rattle.numbers.proofs.Products.{prod-same}
@@ -11,7 +10,9 @@ use Rattle.group.specs.Arithmetic.{mulMod, powMod, over}
 use Rattle.rules.specs.Bytes.{word}
 use Rattle.group.specs.Elements.{Parameters}
 use Rattle.rules.specs.Proofs.{Statement}
-use Rattle.rules.specs.Claims.{matrixAt, entryClaim, rowClaim, columnClaim}
+use Rattle.rules.specs.Claims.{matrixAt, entryClaim, lineClaim, rowClaim, columnClaim}
+use Rattle.statements.specs.Lines.{byLine, lineStart, lineStride}
+use Rattle.statements.proofs.Lines.{by-row, by-column, row-or-column, row-cell, column-cell}
 
 pub said : (x x' y y' : ℕ) → x ≡ x' → y ≡ y' → _≡_ {A = Statement} (record { left = x; right = y }) (record { left = x'; right = y' })
 said x x' y y' e f = cc
@@ -42,24 +43,22 @@ module _ (s : List ℕ) (g : Parameters) (n at : ℕ) (inv : ℕ) (e : inv ≡ p
       let m : l ≡ suc (l - 1) = omega arith in
       rw (m, over-inverse (g .p) (g .q) b (g .g1) inv e, eb, ey)
 
-  pub row-said : (i : ℕ) (b y : ℕ) → b ≡ prodBelow n (λ j. word s (at + 4 + 8 * (i * n) + 8 * j)) % g .p →
-      y ≡ prodBelow n (λ j. word s (at + 4 + 8 * (i * n) + 4 + 8 * j)) % g .p →
-      _≡_ {A = Statement} (record { left = mulMod (g .p) b inv; right = y }) (rowClaim g n (matrixAt s n at) i)
-  unfolding rowClaim matrixAt
-  row-said i b y eb ey =
+  -- of the pairs at a stride
+  line-of : (place stride b y : ℕ) (cell : ℕ → ℕ) → ((j : ℕ) → j < n → place + stride * j ≡ cell j) →
+      b ≡ prodBelow n (λ j. word s (place + stride * j)) % g .p → y ≡ prodBelow n (λ j. word s (place + 4 + stride * j)) % g .p →
+      _≡_ {A = Statement} (record { left = mulMod (g .p) b inv; right = y }) (lineClaim g n (λ j. word s (cell j)) (λ j. word s (cell j + 4)))
+  line-of place stride b y cell h eb ey =
       said _ _ _ _
-      (over-rest (g .p) (g .q) b _ (g .g1) inv (eb ∙ ap (λ (t : ℕ). t % g .p) (prod-words s n (λ j. at + 4 + 8 * (i * n) + 8 * j) (λ j. at + 4 + 8 * (i * n + j)) (λ j l. omega arith))) e)
-      (ey ∙ ap (λ (t : ℕ). t % g .p) (prod-words s n (λ j. at + 4 + 8 * (i * n) + 4 + 8 * j) (λ j. at + 4 + 8 * (i * n + j) + 4) (λ j l. omega arith)))
+      (over-rest (g .p) (g .q) b _ (g .g1) inv (eb ∙ ap (λ (t : ℕ). t % g .p) (prod-words s n (λ j. place + stride * j) cell h)) e)
+      (ey ∙ ap (λ (t : ℕ). t % g .p) (prod-words s n (λ j. place + 4 + stride * j) (λ j. cell j + 4) (λ j l. omega (arith, h j l))))
 
-  pub column-said : (j : ℕ) (b y : ℕ) → b ≡ prodBelow n (λ i. word s (at + 4 + 8 * j + 8 * n * i)) % g .p →
-      y ≡ prodBelow n (λ i. word s (at + 4 + 8 * j + 4 + 8 * n * i)) % g .p →
-      _≡_ {A = Statement} (record { left = mulMod (g .p) b inv; right = y }) (columnClaim g n (matrixAt s n at) j)
-  unfolding columnClaim matrixAt
-  column-said j b y eb ey =
-      said _ _ _ _
-      (over-rest (g .p) (g .q) b _ (g .g1) inv (eb ∙ ap (λ (t : ℕ). t % g .p) (prod-words s n (λ i. at + 4 + 8 * j + 8 * n * i) (λ i. at + 4 + 8 * (i * n + j)) (λ i l. omega arith))) e)
-      (ey ∙ ap (λ (t : ℕ). t % g .p) (prod-words s n (λ i. at + 4 + 8 * j + 4 + 8 * n * i) (λ i. at + 4 + 8 * (i * n + j) + 4) (λ i l. omega arith)))
-
--- places within a matrix of m rows of n
-pub row-below : (m n i : ℕ) → i < m → i * n + n ≤ m * n
-row-below m n i h = omega (arith, mul-le-mul-right n h)
+  pub line-said : (t b y : ℕ) → b ≡ prodBelow n (λ j. word s (at + 4 + 8 * lineStart n t + 8 * lineStride n t * j)) % g .p →
+      y ≡ prodBelow n (λ j. word s (at + 4 + 8 * lineStart n t + 4 + 8 * lineStride n t * j)) % g .p →
+      _≡_ {A = Statement} (record { left = mulMod (g .p) b inv; right = y }) (byLine n t (rowClaim g n (matrixAt s n at)) (columnClaim g n (matrixAt s n at)))
+  unfolding rowClaim columnClaim matrixAt
+  line-said t b y eb ey =
+      row-or-column n t
+      (λ h. rw (by-row n (rowClaim g n (matrixAt s n at)) (columnClaim g n (matrixAt s n at)) t h)
+      (line-of (at + 4 + 8 * lineStart n t) (8 * lineStride n t) b y (λ j. at + 4 + 8 * (t * n + j)) (λ j l. omega (arith, row-cell n t j h)) eb ey))
+      (λ h. rw (by-column n (rowClaim g n (matrixAt s n at)) (columnClaim g n (matrixAt s n at)) t h)
+      (line-of (at + 4 + 8 * lineStart n t) (8 * lineStride n t) b y (λ i. at + 4 + 8 * (i * n + (t - n))) (λ i l. omega (arith, column-cell n t i h)) eb ey))

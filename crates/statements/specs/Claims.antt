@@ -8,15 +8,15 @@ use Rattle.group.specs.Elements.{Parameters}
 use Rattle.rules.specs.Bytes.{word}
 use Rattle.rules.specs.Proofs as said
 use Rattle.rules.specs.Claims.{matrixAt, entryClaim, rowClaim, columnClaim, shiftClaim}
+use Rattle.statements.specs.Lines.{byLine}
 use Rattle.statements.specs.declared.Statement.{Statement}
 use Rattle.statements.specs.declared.claims.Claim.{Claim}
-use Rattle.statements.specs.declared.claims.Claim.the-variants.{Entry, Row, Column, Shift}
+use Rattle.statements.specs.declared.claims.Claim.the-variants.{Entry, Line, Shift}
 
 -- what a claim says of branch l, statement k: the matrices are those of the records at its places
 unfoldable pub claimOf : (s : List ℕ) → Parameters → (n : ℕ) → Claim → (l k : ℕ) → said.Statement
 claimOf s g n (Entry at i j) l k = entryClaim g (matrixAt s n at) i j l
-claimOf s g n (Row at i) l k = rowClaim g n (matrixAt s n at) i
-claimOf s g n (Column at j) l k = columnClaim g n (matrixAt s n at) j
+claimOf s g n (Line at t) l k = byLine n t (rowClaim g n (matrixAt s n at)) (columnClaim g n (matrixAt s n at))
 claimOf s g n (Shift before new rows a) l k = shiftClaim g n (matrixAt s n before) (matrixAt s n new) a l k
 
 -- the inverses of the words of a matrix, one after another
@@ -40,6 +40,5 @@ pub record Shifts (s inverses : List ℕ) (g : Parameters) (n before new rows a 
 -- the pairs that a claim speaks of stand on the board, and the inverses that it needs are there
 unfoldable pub Within : (s inverses : List ℕ) → Parameters → (n : ℕ) → Claim → (l k : ℕ) → Type 0
 Within s inverses g n (Entry at i j) l k = (i < n) × (j < n) × (at + 4 + 8 * (n * n) ≤ length s)
-Within s inverses g n (Row at i) l k = (i < n) × (at + 4 + 8 * (n * n) ≤ length s)
-Within s inverses g n (Column at j) l k = (j < n) × (at + 4 + 8 * (n * n) ≤ length s)
+Within s inverses g n (Line at t) l k = (t < n + n) × (at + 4 + 8 * (n * n) ≤ length s)
 Within s inverses g n (Shift before new rows a) l k = Shifts s inverses g n before new rows a l k

@@ -9,6 +9,7 @@ ghost use lib.ListN.{length};
 ghost use Rattle.group.specs.Elements.{parametersOf};
 ghost use Rattle.rules.specs.Claims.{matrixAt, source, entryClaim, rowClaim, columnClaim, shiftClaim};
 ghost use Rattle.statements.specs.Values.{statementOf, Ready};
+ghost use Rattle.statements.specs.Lines.{byLine, lineStart, lineStride};
 ghost use Rattle.statements.specs.Claims.{claimOf, Shifts, InverseTable, Within};
 
 // Which proof, over matrices of n columns. A place is that of the record, four bytes before the matrix.
@@ -19,15 +20,10 @@ pub enum Claim {
         i: usize,
         j: usize,
     },
-    // Row i sums to 1.
-    Row {
+    // Line t sums to 1.
+    Line {
         at: usize,
-        i: usize,
-    },
-    // Column j sums to 1.
-    Column {
-        at: usize,
-        j: usize,
+        t: usize,
     },
     // The new matrix, of so many rows, is the one before with the row struck that has its 1 in column a.
     Shift {
@@ -55,28 +51,39 @@ fn claimed_entry(s: &[u8], g: Setup, n: usize, at: usize, i: usize, j: usize, l:
     }
 }
 
-fn claimed_row(s: &[u8], g: Setup, n: usize, at: usize, i: usize) -> Statement
-    requires { ⌜ Ready g ⌝ }
-    requires { ⌜ (i < n) × (at + 4 + 8 * (n * n) ≤ length (now s)) ⌝ }
-    ensures { λ r. ⌜ statementOf r ≡ rowClaim (parametersOf (g .group)) n (matrixAt (now (s .entry)) n at) i ⌝ }
+// A line of a matrix: the pair that it starts with, and how far each is past the one before.
+pub struct Line {
+    pub start: usize,
+    pub stride: usize,
+}
+
+// Line t of a matrix of n rows and n columns: row t, or else column t - n.
+pub fn line_of(n: usize, t: usize) -> Line
+    requires { ⌜ (t < n + n) × (n * n < 2 ^ 64) ⌝ }
+    ensures { λ r. ⌜ (r .start ≡ lineStart n t) × (r .stride ≡ lineStride n t) ⌝ }
 {
-    let place = at + 4 + 8 * (i * n);
-    let b = fields::product(s, g.group.p, place, 8, n);
-    let y = fields::product(s, g.group.p, place + 4, 8, n);
-    Statement {
-        left: group::mul(g.group.p, b, g.inverse),
-        right: y,
+    if t < n {
+        return Line {
+            start: t * n,
+            stride: 1,
+        };
+    }
+    Line {
+        start: t - n,
+        stride: n,
     }
 }
 
-fn claimed_column(s: &[u8], g: Setup, n: usize, at: usize, j: usize) -> Statement
+fn claimed_line(s: &[u8], g: Setup, n: usize, at: usize, t: usize) -> Statement
     requires { ⌜ Ready g ⌝ }
-    requires { ⌜ (j < n) × (at + 4 + 8 * (n * n) ≤ length (now s)) ⌝ }
-    ensures { λ r. ⌜ statementOf r ≡ columnClaim (parametersOf (g .group)) n (matrixAt (now (s .entry)) n at) j ⌝ }
+    requires { ⌜ (t < n + n) × (at + 4 + 8 * (n * n) ≤ length (now s)) ⌝ }
+    ensures { λ r. ⌜ statementOf r ≡ byLine n t (rowClaim (parametersOf (g .group)) n (matrixAt (now (s .entry)) n at)) (columnClaim (parametersOf (g .group)) n (matrixAt (now (s .entry)) n at)) ⌝ }
 {
-    let place = at + 4 + 8 * j;
-    let b = fields::product(s, g.group.p, place, 8 * n, n);
-    let y = fields::product(s, g.group.p, place + 4, 8 * n, n);
+    let line = line_of(n, t);
+    let place = at + 4 + 8 * line.start;
+    let stride = 8 * line.stride;
+    let b = fields::product(s, g.group.p, place, stride, n);
+    let y = fields::product(s, g.group.p, place + 4, stride, n);
     Statement {
         left: group::mul(g.group.p, b, g.inverse),
         right: y,
@@ -150,8 +157,7 @@ pub fn claimed(
 {
     match claim {
         Claim::Entry { at, i, j } => claimed_entry(s, g, n, at, i, j, l),
-        Claim::Row { at, i } => claimed_row(s, g, n, at, i),
-        Claim::Column { at, j } => claimed_column(s, g, n, at, j),
+        Claim::Line { at, t } => claimed_line(s, g, n, at, t),
         Claim::Shift {
             before,
             new,

@@ -9,33 +9,25 @@ use Rattle.output.specs.Written.{written}
 use Rattle.output.proofs.Laws.{more}
 use Rattle.ballots.specs.Parts.{matrixOf}
 use Rattle.ballots.proofs.Entries.{cells}
-use Rattle.ballots.proofs.Records.{length-entries, columns-start, proofs-joined}
+use Rattle.ballots.proofs.Records.{length-entries, proofs-joined}
 use borrow.Author.Needs.{needs}
 use Rattle.ballots.proofs.ballot.write_proofs.Statement.{statement}
 use Rattle.ballots.proofs.ballot.write_proofs.Tie as tie
 
-write-rows-requires : tie.Need-write-rows-requires
-write-rows-requires c κs =
+write-lines-requires : tie.Need-write-lines-requires
+write-lines-requires c κs =
     let s = c .before .before .before .before .before .before .before .before .before in
-    let p = s .pre .0 in
-    ((p .0, p .1, p .2, simp (length-take, length-drop) (omega (arith, p .3, c .before, c .before .before))), s .pre .1 .0)
-
-write-columns-requires : tie.Need-write-columns-requires
-write-columns-requires c κs =
-    let s = c .before .before .before .before .before .before .before .before .before .before .before .before .before in
     let p = s .pre .0 in
     ((p .0, p .1, p .2, simp (length-take, length-drop) (omega (arith, p .3, c .before, c .before .before))), s .pre .1 .0)
 
 returns : tie.Need-returns
 returns c =
-    let s = c .before .before .before .before .before .before .before .before .before .before .before .before .before .before .before .before in
+    let s = c .before .before .before .before .before .before .before .before .before .before .before .before in
     let f = s .args in
     let g = parametersOf (f .g .group) in
     let list : ℕ → ℕ = λ k. getD (f .list) k 0 in
     let M = matrixOf g (f .n) list (now (f .draws)) (f .from) in
-    more _ _ _ _ _ _ (columns-start (now (f .label)) g (f .n) 0 list (now (f .draws)) (f .from))
-    (more _ _ _ _ _ _ (length-entries (now (f .label)) g (f .n) 0 list (now (f .draws)) (f .from) (f .n * f .n)) (c .before .before .before .before .before .before .before .before .before .before .write-entries .ensures) (c .before .before .before .before .before .before .write-rows .ensures M))
-    (c .before .before .write-columns .ensures M)
+    more _ _ _ _ _ _ (length-entries (now (f .label)) g (f .n) 0 list (now (f .draws)) (f .from) (f .n * f .n)) (c .before .before .before .before .before .before .write-entries .ensures) (c .before .before .write-lines .ensures M)
     ∙ ap (λ (x : List ℕ). written x (now (f .out))) (proofs-joined (now (f .label)) g (f .n) 0 list (now (f .draws)) (f .from) (s .pre .0 .1))
 
 pub write-proofs-spec : {M : Type 1} → statement M
@@ -48,12 +40,6 @@ write-proofs-spec =
     (λ c. omega (arith, c .before .before .before .before .before .before .before .before .pre .0 .3, c, c .before))
     (λ c. omega (arith, c .before .before .before .before .before .before .before .before .pre .0 .3, c, c .before))
     (λ c. omega (arith, c .before .before .before .before .before .before .before .before .pre .0 .3, c, c .before))
-    write-rows-requires
-    (λ c. let s = c .before .before .before .before .before .before .before .before .before .before .before .before in omega (arith, cells (s .args .n) (s .pre .0 .2), s .pre .0 .2))
-    (λ c. let s = c .before .before .before .before .before .before .before .before .before .before .before .before in omega (arith, cells (s .args .n) (s .pre .0 .2), s .pre .0 .2))
-    (λ c. omega (arith, c .before .before .before .before .before .before .before .before .before .before .before .before .pre .0 .3, c, c .before))
-    (λ c. omega (arith, c .before .before .before .before .before .before .before .before .before .before .before .before .pre .0 .3, c, c .before))
-    (λ c. omega (arith, c .before .before .before .before .before .before .before .before .before .before .before .before .pre .0 .3, c, c .before))
-    write-columns-requires
+    write-lines-requires
     (λ c. search needs)
     returns)

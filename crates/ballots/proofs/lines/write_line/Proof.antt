@@ -1,29 +1,77 @@
+use Prim.Native.Nat.{ℕ, _+_, _*_, _-_, _%_, _≤_, _<_}
 use mathlib.Core.Path.{ap, _∙_}
-use Prim.Native.Nat.{ℕ}
 use mathlib.Core.List.{List}
 use native.Mathlib.Omega.{arith}
 use denote.Ref.{now}
 use Rattle.group.specs.Elements.{parametersOf}
-use Rattle.statements.specs.Claims.{claimOf}
+use Rattle.rules.specs.Claims.{rowClaim, columnClaim}
+use Rattle.statements.specs.Lines.{byLine}
+use Rattle.statements.proofs.Lines.{line-within, line-fits}
 use Rattle.output.specs.Written.{written}
-use Rattle.ballots.proofs.Entries.{planned-line, line-is}
+use Rattle.ballots.specs.Parts.{lineOf, lineSum}
+use Rattle.ballots.proofs.Secrets.{line-sum}
+use Rattle.ballots.proofs.Entries.{spread-part, cells, planned-line, line-is}
 use borrow.Author.Needs.{needs}
 use Rattle.ballots.proofs.lines.write_line.Statement.{statement}
 use Rattle.ballots.proofs.lines.write_line.Tie as tie
 
+-- the line is within the matrix
+fits : (c : tie.After-line-of) →
+    let n = c .before .before .before .before .before .args .n in
+    let line = c .line-of .result in
+    (line .start + line .stride * (n - 1) < n * n) × (line .start < n * n) × (line .stride ≤ n * n) × (n * n ≤ 64)
+fits c =
+    let s = c .before .before .before .before .before in
+    let p = s .pre .0 in
+    let w = line-fits (s .args .n) (s .args .t) (p .3) in
+    rw (c .line-of .ensures .0, c .line-of .ensures .1)
+    (line-within (s .args .n) (s .args .t) (s .args .n - 1) (p .3) (omega (arith, p)), w .0, w .1, cells (s .args .n) (p .2))
+
+sum-of-requires : tie.Need-sum-of-requires
+sum-of-requires c κs =
+    let s = c .before .before .before .before .before .before in
+    let p = s .pre .0 in
+    let f = fits (c .before) in
+    (p .0 .q-pos, omega (arith, p), omega (arith, f), omega (arith, p, f, s .pre .1 .near), omega (arith, f, s .pre .1 .enough))
+
 make-requires : tie.Need-make-requires
 make-requires c κs =
-    let s = c .before .before .before .before .before .before .before in
+    let s = c .before .before .before .before .before .before .before .before .before .before in
     let f = s .args in
-    ((s .pre .0 .0, planned-line (parametersOf (f .g .group)) (now (f .page)) _ (f .n) (f .claim) (now (f .draws)) (f .from) (s .pre .1)), omega (arith, s .pre .0 .1))
+    let p = s .pre .0 in (
+      (
+        p .0,
+        planned-line (parametersOf (f .g .group)) (now (f .page)) _ (f .n) _ (now (f .draws)) _ (spread-part (f .g .group .q) (now (f .draws)) (f .from) _ _ 1 (s .pre .1) (omega (arith, p))),
+      ),
+      omega (arith, p .4),
+    )
 
 returns : tie.Need-returns
+unfolding lineOf
 returns c =
-    let f = c .before .before .before .before .before .before .before .before .before .before .args in
+    let f = c .before .before .before .before .before .before .before .before .before .before .before .before .before .args in
+    let line = c .before .before .before .before .before .before .before .before .line-of in
     let g = parametersOf (f .g .group) in
-    λ said x e.
+    λ M.
     c .before .before .make .ensures
-    ∙ ap (λ (w : List ℕ). written w (now (f .out))) (line-is (now (f .label)) g (claimOf (now (f .page)) g (f .n) (f .claim)) said (f .w .0) x (now (f .draws)) (f .from) e)
+    ∙ ap (λ (w : List ℕ). written w (now (f .out)))
+    (line-is (now (f .label)) g _ (byLine (f .n) (f .t) (rowClaim g (f .n) M) (columnClaim g (f .n) M)) _ (lineSum (now (f .draws)) (f .from) (f .n) (f .t)) (now (f .draws)) _
+    (rw (line .ensures .0, line .ensures .1) at (c .before .before .before .before .before .before .sum-of .ensures)
+    ∙ ap (λ (x : ℕ). x % f .g .group .q) (line-sum (now (f .draws)) (f .from) (f .n) (f .t))))
 
 pub write-line-spec : {M : Type 1} → statement M
-write-line-spec = tie.close (tie.spec (λ c. search needs) (λ c. search needs) make-requires (λ c. search needs) returns)
+write-line-spec =
+    tie.close
+    (tie.spec
+    (λ c κs. let s = c .before .before .before .before in (s .pre .0 .3, omega (arith, cells (s .args .n) (s .pre .0 .2))))
+    (λ c. omega (arith, fits (c .before), c .before .before .before .before .before .before .pre .1 .near))
+    sum-of-requires
+    (λ c. omega (arith, fits (c .before .before)))
+    (λ c. omega (arith, fits (c .before .before)))
+    (λ c. omega (arith, fits (c .before .before), c .before .before .before .before .before .before .before .pre .1 .near))
+    (λ c. omega (arith, fits (c .before .before), c .before .before .before .before .before .before .before .pre))
+    (λ c. search needs)
+    (λ c. search needs)
+    make-requires
+    (λ c. search needs)
+    returns)

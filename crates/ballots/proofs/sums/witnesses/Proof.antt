@@ -5,7 +5,8 @@ use native.Mathlib.Omega.{arith}
 use lib.ListN.{length, getD, set, replicate}
 use denote.Ref.{now}
 use Rattle.ballots.specs.Parts.{Witnessed}
-use Rattle.ballots.proofs.Secrets.{witnessed-none, witnessed-more, witness-first, witness-second, witness-later, within, source-within}
+use Rattle.statements.proofs.Lines.{row-below}
+use Rattle.ballots.proofs.Secrets.{witnessed-none, witnessed-more, witness-first, witness-second, witness-later, source-within}
 use borrow.Author.Needs.{needs}
 use Rattle.ballots.proofs.sums.witnesses.Statement.{statement}
 use Rattle.ballots.proofs.sums.witnesses.Tie as tie
@@ -23,7 +24,7 @@ few rows n h k = let u : rows * n ≤ 7 * n = mul-le-mul-right n (omega arith) i
 -- the struck row is within the matrix before
 module _ (c : tie.After-shared-slice-known Inv-loop μ-loop) where
   row-in : c .before .args .l * c .before .args .n + c .before .args .n ≤ (c .before .args .rows + 1) * c .before .args .n
-  row-in = let s = c .before in within (s .args .n) (s .args .rows + 1) (s .args .l) (omega (arith, s .pre .0))
+  row-in = let s = c .before in row-below (s .args .rows + 1) (s .args .n) (s .args .l) (omega (arith, s .pre .0))
 
   row-near : c .before .args .old + c .before .args .l * c .before .args .n + c .before .args .n < 2 ^ 40
   row-near = omega (arith, row-in, c .before .pre .1 .0 .near)

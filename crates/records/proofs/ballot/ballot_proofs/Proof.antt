@@ -8,21 +8,7 @@ returns : tie.Need-returns
 returns c = rw (sym (c .before .entries-good .ensures) ∙ not-true _ (c .if1 .taken))
 
 returns-2 : tie.Need-returns-2
-returns-2 c =
-    rw (
-      sym (c .before .before .before .entries-good .ensures) ∙ not-false _ (c .before .before .if1 .left),
-      sym (c .before .rows-good .ensures) ∙
-          not-true _ (c .if2 .taken),
-    )
-
-returns-3 : tie.Need-returns-3
-returns-3 c =
-    rw (
-      sym (c .before .before .before .before .entries-good .ensures) ∙ not-false _ (c .before .before .before .if1 .left),
-      sym
-          (c .before .before .rows-good .ensures) ∙ not-false _ (c .before .if2 .left),
-    )
-    (c .columns-good .ensures)
+returns-2 c = rw (sym (c .before .before .entries-good .ensures) ∙ not-false _ (c .before .if1 .left)) (c .lines-good .ensures)
 
 pub ballot-proofs-spec : {M : Type 1} → statement M
-ballot-proofs-spec = tie.close (tie.spec (λ c κs. search needs) returns (λ c κs. search needs) returns-2 (λ c κs. search needs) returns-3)
+ballot-proofs-spec = tie.close (tie.spec (λ c κs. search needs) returns (λ c κs. search needs) returns-2)

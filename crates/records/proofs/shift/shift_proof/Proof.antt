@@ -3,7 +3,7 @@ use native.Mathlib.Nat.{mul-le-mul-right}
 use native.Mathlib.Omega.{arith}
 use borrow.Author.Needs.{needs}
 use Rattle.statements.specs.Claims.{claimOf, Within}
-use Rattle.statements.proofs.PlainClaims.{row-below}
+use Rattle.statements.proofs.Lines.{row-below}
 use Rattle.records.proofs.shift.shift_proof.Statement.{statement}
 use Rattle.records.proofs.shift.shift_proof.Tie as tie
 

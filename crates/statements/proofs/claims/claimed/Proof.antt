@@ -1,7 +1,7 @@
 use Prim.Native.Nat.{_-_}
 use native.Mathlib.Omega.{arith}
 use Rattle.statements.specs.Claims.{Within, claimOf}
-use Rattle.statements.proofs.PlainClaims.{row-below}
+use Rattle.statements.proofs.Lines.{row-below}
 use borrow.Author.Needs.{needs}
 use Rattle.statements.proofs.claims.claimed.Statement.{statement}
 use Rattle.statements.proofs.claims.claimed.Tie as tie
@@ -14,22 +14,16 @@ claimed-entry-requires c κs =
     let r = row-below (a .n) (a .n) _ (w .0) in
     (c .before .before .before .before .before .pre .0, omega arith)
 
-claimed-row-requires : tie.Need-claimed-row-requires
+claimed-line-requires : tie.Need-claimed-line-requires
 unfolding Within
-claimed-row-requires c κs =
+claimed-line-requires c κs =
     let w = rw (c .before .claim2 .given .1) at (c .before .before .before .before .before .pre .1) in
-    (c .before .before .before .before .before .pre .0, w)
-
-claimed-column-requires : tie.Need-claimed-column-requires
-unfolding Within
-claimed-column-requires c κs =
-    let w = rw (c .before .claim3 .given .1) at (c .before .before .before .before .before .pre .1) in
     (c .before .before .before .before .before .pre .0, w)
 
 claimed-shift-requires : tie.Need-claimed-shift-requires
 unfolding Within
 claimed-shift-requires c κs =
-    let w = rw (c .before .claim4 .given .1) at (c .before .before .before .before .before .pre .1) in
+    let w = rw (c .before .claim3 .given .1) at (c .before .before .before .before .before .pre .1) in
     (c .before .before .before .before .before .pre .0, w)
 
 returns : tie.Need-returns
@@ -38,18 +32,13 @@ returns c = rw (c .before .before .claim .given .1) (c .claimed-entry .ensures)
 
 returns-2 : tie.Need-returns-2
 unfolding claimOf
-returns-2 c = rw (c .before .before .claim2 .given .1) (c .claimed-row .ensures)
+returns-2 c = rw (c .before .before .claim2 .given .1) (c .claimed-line .ensures)
 
 returns-3 : tie.Need-returns-3
 unfolding claimOf
-returns-3 c = rw (c .before .before .claim3 .given .1) (c .claimed-column .ensures)
-
-returns-4 : tie.Need-returns-4
-unfolding claimOf
-returns-4 c = rw (c .before .before .claim4 .given .1) (c .claimed-shift .ensures)
+returns-3 c = rw (c .before .before .claim3 .given .1) (c .claimed-shift .ensures)
 
 pub claimed-spec : {M : Type 1} → statement M
 claimed-spec =
     tie.close
-    (tie.spec (λ c. search needs) claimed-entry-requires (λ c. search needs) claimed-row-requires (λ c. search needs) claimed-column-requires
-    (λ c. search needs) claimed-shift-requires returns returns-2 returns-3 returns-4)
+    (tie.spec (λ c. search needs) claimed-entry-requires (λ c. search needs) claimed-line-requires (λ c. search needs) claimed-shift-requires returns returns-2 returns-3)

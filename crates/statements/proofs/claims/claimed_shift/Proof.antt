@@ -5,7 +5,8 @@ use native.Mathlib.Omega.{arith}
 use lib.ListN.{length}
 use borrow.Author.Needs.{needs}
 use Rattle.group.specs.Elements.{parametersOf}
-use Rattle.statements.proofs.PlainClaims.{said, row-below}
+use Rattle.statements.proofs.PlainClaims.{said}
+use Rattle.statements.proofs.Lines.{row-below}
 use Rattle.statements.proofs.ShiftClaims.{source-below, shift-zero, shift-one, shift-more}
 use Rattle.statements.proofs.claims.claimed_shift.Statement.{statement}
 use Rattle.statements.proofs.claims.claimed_shift.Tie as tie

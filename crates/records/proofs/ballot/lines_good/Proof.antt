@@ -1,5 +1,5 @@
 use denote.Ref.{now}
-use Prim.Native.Nat.{_-_, _≤_}
+use Prim.Native.Nat.{_+_, _-_, _≤_}
 use mathlib.Core.Path.{_≡_, sym, _∙_}
 use mathlib.Core.Bool.{true}
 use native.Mathlib.Omega.{arith}
@@ -8,15 +8,15 @@ use borrow.Author.Tests.{not-true, not-false}
 use Rattle.numbers.specs.Below.{allBelow}
 use Rattle.numbers.proofs.Tests.{all-none, all-more, all-fails, all-end}
 use Rattle.statements.specs.Claims.{claimOf, Within}
-use Rattle.records.specs.Parts.{columnGood}
-use Rattle.records.proofs.ballot.columns_good.Statement.{statement}
-use Rattle.records.proofs.ballot.columns_good.Tie as tie
+use Rattle.records.specs.Parts.{lineGood}
+use Rattle.records.proofs.ballot.lines_good.Statement.{statement}
+use Rattle.records.proofs.ballot.lines_good.Tie as tie
 
 abbrev Inv-loop : tie.InvT-loop
-Inv-loop board at head n none first j₀ j = (j ≤ n) × (allBelow j (columnGood board head at) ≡ true)
+Inv-loop board at head n none first count t₀ t = (t ≤ n + n) × (allBelow t (lineGood board head at) ≡ true)
 
 abbrev μ-loop : tie.MeasureT-loop
-μ-loop board at head n none first j₀ j = n - j
+μ-loop board at head n none first count t₀ t = n + n - t
 
 proof-good-requires : tie.Need-proof-good-requires Inv-loop μ-loop
 unfolding Within
@@ -28,7 +28,7 @@ returns : tie.Need-returns Inv-loop μ-loop
 unfolding claimOf
 returns c =
     let a = c .before .before .before .before .before .before .args in
-    sym (all-fails (a .h .n) (c .before .before .before .before .loop .j) (columnGood (now (a .board)) (a .h) (a .at)) (omega arith)
+    sym (all-fails (a .h .n + a .h .n) (c .before .before .before .before .loop .t) (lineGood (now (a .board)) (a .h) (a .at)) (omega arith)
     (sym (c .before .proof-good .ensures) ∙ not-true _ (c .if1 .taken)))
 
 loop-again : tie.Need-loop-again Inv-loop μ-loop
@@ -36,21 +36,20 @@ unfolding claimOf
 loop-again c =
     let a = c .before .before .before .before .before .before .args in (
       omega arith,
-      all-more _ (columnGood (now (a .board)) (a .h) (a .at)) (c .before .before .before .before .loop .inv .1)
+      all-more _ (lineGood (now (a .board)) (a .h) (a .at)) (c .before .before .before .before .loop .inv .1)
           (sym (c .before .proof-good .ensures) ∙ not-false _ (c .if1 .left)),
     )
 
 returns-2 : tie.Need-returns-2 Inv-loop μ-loop
 returns-2 c =
     let a = c .before .before .before .args in
-    sym (all-end (a .h .n) (c .before .loop .j) (columnGood (now (a .board)) (a .h) (a .at)) (c .before .loop .inv .0) (omega arith)
+    sym (all-end (a .h .n + a .h .n) (c .before .loop .t) (lineGood (now (a .board)) (a .h) (a .at)) (c .before .loop .inv .0) (omega arith)
     (c .before .loop .inv .1))
 
-pub columns-good-spec : {M : Type 1} → statement M
-columns-good-spec =
+pub lines-good-spec : {M : Type 1} → statement M
+lines-good-spec =
     tie.close
     (tie.spec Inv-loop μ-loop (λ c. omega (arith, c .before .good)) (λ c. omega (arith, c .before .good)) (λ c. omega (arith, c .before .good))
-    (λ c. omega (arith, c .before .good)) (λ c. (omega arith, all-none _)) (λ c. search needs)
-    (λ c. omega (arith, c .before .before .before .before .good)) (λ c. omega (arith, c .before .before .before .before .good))
-    (λ c. omega (arith, c .before .before .before .before .good)) proof-good-requires returns (λ c. omega arith) (λ c. omega arith) loop-again
-    returns-2)
+    (λ c. omega (arith, c .before .good)) (λ c. omega (arith, c .before .good)) (λ c. (omega arith, all-none _)) (λ c. search needs)
+    (λ c. omega (arith, c .before .before .before .before .good)) (λ c. omega (arith, c .before .before .before .before .good)) proof-good-requires
+    returns (λ c. omega arith) (λ c. omega arith) loop-again returns-2)
