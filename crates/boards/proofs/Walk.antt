@@ -16,9 +16,10 @@ use Rattle.rules.specs.Answers.{padded}
 use Rattle.rules.specs.Count.{Standing, Result, start, next, leaves, closes, ended, table, isRanking, countsOf, countFrom, plainCount}
 use Rattle.jobs.specs.Job.{Job, rankingOf, plainResult, standing, placeOf}
 use Rattle.jobs.specs.Board.{recordBytes, sheetBytes, roundsFrom}
-use Rattle.whole.proofs.Lists.{length-table, standing-all, strike}
+use Rattle.rules.proofs.Lists.{length-table}
+use Rattle.whole.proofs.Lists.{standing-all, strike}
 use Rattle.whole.proofs.Rankings.{times, ranking-length, times-member, times-standing, length-struck, once, place-below}
-use Rattle.whole.proofs.Complete.Leaving.{In, leaves-in, rounds-over}
+use Rattle.rules.proofs.Leaving.{In, leaves-in, rounds-over}
 use Rattle.boards.specs.Parts.{recordsOf, roundOf}
 
 -- the order of going out only grows

@@ -16,7 +16,7 @@ use Rattle.rules.specs.Check.{Header, recordFault, sheetFault, faultBelow}
 use Rattle.rules.specs.Answers.{refusalNumber}
 use Rattle.rules.specs.declared.Refusal.{Refusal}
 use Rattle.rules.specs.declared.Refusal.the-variants as R
-use Rattle.whole.proofs.Faults.{first-holds}
+use Rattle.rules.proofs.Faults.{first-holds}
 
 pub positive : (w : Refusal) → 0 < refusalNumber w
 positive R.Length = lit< tt

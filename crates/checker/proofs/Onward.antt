@@ -12,7 +12,7 @@ use Rattle.rules.specs.Count.{next, leaves, start, Standing}
 use Rattle.rules.specs.Check.{Header, Verdict, refused, roundVerdict, checkFrom, checkBoard, counts}
 use Rattle.rules.specs.Answers.{refusalNumber, padded}
 use Rattle.rules.specs.declared.Refusal.{Refusal}
-use Rattle.whole.proofs.Complete.Leaving.{leaves-in}
+use Rattle.rules.proofs.Leaving.{leaves-in}
 use Rattle.count.specs.declared.Count.{Count}
 use Rattle.count.specs.State.{standingOf, listOf, Kept}
 use Rattle.count.proofs.Picks.{gone-is}

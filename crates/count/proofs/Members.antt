@@ -1,33 +1,16 @@
 -- Membership in the front of a list, one place at a time. Assumes nothing.
 use Prim.Native.Nat.{ℕ, zero, suc, _+_, _≤_, _<_}
 use mathlib.Core.Path.{_≡_, refl, sym}
-use mathlib.Core.Bool.{Bool, true, false, _||_}
-use mathlib.Core.List.{List, [], _∷_, _++_}
+use mathlib.Core.Bool.{true, false, or-true}
+use mathlib.Core.List.{List, [], _∷_}
 use native.Mathlib.Nat.{not-suc-le-zero, le-of-suc-le-suc}
 use native.Mathlib.Numerals.{add-one}
 use native.Mathlib.Omega.{arith}
-use lib.Dec.{eqb}
 use lib.ListN.{length, getD, take}
 use lib.Seq.{take-suc, getD-take, length-take-le}
 use borrow.Author.Tests.{eq-eqb, ne-eqb}
 use Rattle.rules.specs.Count.{member}
-
-or-true : (a : Bool) → (a || true) ≡ true
-or-true true = refl
-or-true false = refl
-
-or-assoc : (a b c : Bool) → ((a || b) || c) ≡ (a || (b || c))
-or-assoc true b c = refl
-or-assoc false b c = refl
-
-pub member-snoc : (c x : ℕ) (xs : List ℕ) → member c (xs ++ (x ∷ [])) ≡ (member c xs || eqb c x)
-unfolding member
-member-snoc c x [] = or-false (eqb c x)
-  where
-    or-false : (a : Bool) → (a || false) ≡ a
-    or-false true = refl
-    or-false false = refl
-member-snoc c x (y ∷ ys) = rw (member-snoc c x ys, or-assoc)
+use Rattle.rules.proofs.Lists.{member-append}
 
 pub member-none : (c : ℕ) (l : List ℕ) → member c (take 0 l) ≡ false
 unfolding member
@@ -35,7 +18,8 @@ member-none c [] = refl
 member-none c (x ∷ xs) = refl
 
 pub member-more : (c : ℕ) (l : List ℕ) (i : ℕ) → i < length l → member c (take i l) ≡ false → (getD l i 0 ≡ c → ⊥) → member c (take (i + 1) l) ≡ false
-member-more c l i h m n = rw (add-one i, take-suc l i 0 h, member-snoc, m) (ne-eqb c (getD l i 0) (λ e. n (sym e)))
+unfolding member
+member-more c l i h m n = rw (add-one i, take-suc l i 0 h, member-append, m, ne-eqb c (getD l i 0) (λ e. n (sym e)))
 
 member-at : (l : List ℕ) (i : ℕ) → i < length l → member (getD l i 0) l ≡ true
 unfolding member

@@ -1,7 +1,7 @@
 -- Tests that hold or fail: conjunctions, and tests of all numbers below a bound.
 use Prim.Native.Nat.{ℕ, zero, suc, _+_, _*_, _≤_, _<_}
 use mathlib.Core.Path.{_≡_, refl}
-use mathlib.Core.Bool.{Bool, true, false, _&&_, _||_, true≢false, and-eq-true-iff, and-assoc, and-true as and-unit}
+use mathlib.Core.Bool.{Bool, true, false, _&&_, _||_, true≢false, or-true, and-eq-true-iff, and-assoc, and-true as and-unit}
 use mathlib.Core.Logic.{⊎-elim}
 use native.Mathlib.Nat.{eq-or-lt-of-le, le-of-suc-le-suc, add-zero, add-suc, zero-mul, suc-mul}
 use native.Mathlib.Numerals.{add-one}
@@ -82,15 +82,11 @@ pub any-more : (i : ℕ) (f : ℕ → Bool) → anyBelow i f ≡ false → f i �
 unfolding anyBelow
 any-more i f h t = rw (add-one i, h, t)
 
-or-right : (a : Bool) → (a || true) ≡ true
-or-right true = refl
-or-right false = refl
-
 pub any-holds : (n i : ℕ) (f : ℕ → Bool) → i < n → f i ≡ true → anyBelow n f ≡ true
 unfolding anyBelow
 any-holds zero i f l h = absurd (omega arith)
 any-holds (suc n) i f l h =
-    ⊎-elim (λ (e : i ≡ n). rw (← e, h, or-right)) (λ (b : i < n). rw (any-holds n i f b h)) (eq-or-lt-of-le (le-of-suc-le-suc l))
+    ⊎-elim (λ (e : i ≡ n). rw (← e, h, or-true)) (λ (b : i < n). rw (any-holds n i f b h)) (eq-or-lt-of-le (le-of-suc-le-suc l))
 
 pub any-fails : (n : ℕ) (f : ℕ → Bool) → ((i : ℕ) → i < n → f i ≡ false) → anyBelow n f ≡ false
 unfolding anyBelow

@@ -9,7 +9,6 @@ pub mod Matrices
 pub mod BallotRecord
 pub mod ShiftRecord
 pub mod SheetRecord
-pub mod Leaving
 pub mod Rounds
 use Prim.Native.Nat.{ℕ, _+_, _-_, _<_, zero-le}
 use native.Mathlib.Nat.{sub-zero, mod-lt}

@@ -3,7 +3,6 @@ pub mod Lists
 pub mod Rankings
 pub mod Orders
 pub mod Elements
-pub mod Faults
 pub mod Sound
 pub mod Complete
 pub mod ThirdDemand

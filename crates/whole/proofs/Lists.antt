@@ -1,71 +1,24 @@
--- Laws of tables, membership, and of lists with members struck.
-use Prim.Native.Nat.{ℕ, zero, suc, _+_, _≤_, _<_}
-use mathlib.Core.Path.{_≡_, refl, sym, ap, ap₂, _∙_}
-use mathlib.Core.Bool.{Bool, true, false, not, cond, _||_, true≢false, false≢true, or-assoc, or-true, and-eq-true-iff}
+-- Laws of lists with members struck, and of the votes of rankings.
+use Prim.Native.Nat.{ℕ, zero, suc, _≤_, _<_}
+use mathlib.Core.Path.{_≡_, refl, sym, ap, _∙_}
+use mathlib.Core.Bool.{Bool, true, false, not, cond, true≢false, false≢true, or-true, and-eq-true-iff}
 use mathlib.Core.List.{List, [], _∷_, _++_}
 use native.Mathlib.Nat.{eq-or-lt-of-le}
 use native.Mathlib.Decide.{decLt, decLe}
 use native.Mathlib.Omega.{arith}
 use lib.Dec.{eqb}
-use lib.ListN.{length, getD, length-append, List·getD-append}
-use lib.Seq.{getD-at}
-use borrow.Author.Tests.{le-leb, eq-eqb, ne-eqb, eqb-true, eqb-false}
+use lib.ListN.{length, getD}
+use borrow.Author.Tests.{le-leb, eq-eqb, ne-eqb, eqb-true}
 use mathlib.Core.Logic.{⊎-elim}
 use Rattle.numbers.specs.Below.{allBelow, sumBelow}
-use Rattle.numbers.proofs.Search.{extend}
 use Rattle.numbers.proofs.Sums.{sum-same, sum-swap, sum-constant}
 use Rattle.numbers.proofs.Tests.{all-at, one-fails, by-cases}
 use Rattle.rules.specs.Count.{member, table, isRanking, stillIn, firstIn, votesFor}
 use Rattle.jobs.specs.Job.{standing}
 use Rattle.rules.specs.Openings.{without}
-
-pub eqb-sym : (a b : ℕ) → eqb a b ≡ eqb b a
-eqb-sym a b = go (eqb a b) (eqb b a) refl refl
-  where
-    go : (s t : Bool) → eqb a b ≡ s → eqb b a ≡ t → eqb a b ≡ eqb b a
-    go true t e f = e ∙ sym (eq-eqb b a (sym (eqb-true a b e)))
-    go false true e f = absurd (eqb-false a b e (sym (eqb-true b a f)))
-    go false false e f = e ∙ sym f
-
--- ---- tables
-module _ {ℓ} {A : Type ℓ} where
-  pub length-table : (n : ℕ) (f : ℕ → A) → length (table n f) ≡ n
-  unfolding table
-  length-table zero f = refl
-  length-table (suc n) f = simp (length-append, length-table n f) (omega arith)
-
-  pub table-at : (n : ℕ) (f : ℕ → A) (d : A) (i : ℕ) → i < n → getD (table n f) i d ≡ f i
-  unfolding table
-  table-at zero f d i l = absurd (omega arith)
-  table-at (suc n) f d i l =
-      extend (λ (i : ℕ). getD (table n f ++ (f n ∷ [])) i d ≡ f i) n
-      (λ i b. List·getD-append (table n f) (f n ∷ []) d i (rw length-table b) ∙ table-at n f d i b)
-      (getD-at (table n f) (f n) [] d n (length-table n f)) i l
-
-  pub table-same : (n : ℕ) (f g : ℕ → A) → ((i : ℕ) → i < n → f i ≡ g i) → table n f ≡ table n g
-  unfolding table
-  table-same zero f g h = refl
-  table-same (suc n) f g h = ap₂ (λ t x. t ++ (x ∷ [])) (table-same n f g (λ i l. h i (omega arith))) (h n (omega arith))
-
--- ---- votes
-votes-append : (n : ℕ) (gone : List ℕ) (rs : List (List ℕ)) (r : List ℕ) (c : ℕ) →
-    votesFor n gone (rs ++ (r ∷ [])) c ≡ votesFor n gone rs c + cond (eqb (firstIn n gone r) c) 1 0
-unfolding votesFor
-votes-append n gone [] r c = omega arith
-votes-append n gone (x ∷ rs) r c = let h = votes-append n gone rs r c in omega arith
-
-pub votes-table : (n : ℕ) (gone : List ℕ) (K : ℕ) (r : ℕ → List ℕ) (c : ℕ) →
-    votesFor n gone (table K r) c ≡ sumBelow K (λ k. cond (eqb (firstIn n gone (r k)) c) 1 0)
-unfolding table sumBelow votesFor
-votes-table n gone zero r c = refl
-votes-table n gone (suc K) r c = votes-append n gone (table K r) (r K) c ∙ ap (λ (t : ℕ). t + cond (eqb (firstIn n gone (r K)) c) 1 0) (votes-table n gone K r c)
+use Rattle.rules.proofs.Lists.{eqb-sym, member-append, votes-table, shorter, member-without, pigeonhole}
 
 -- ---- members struck
-pub member-append : (x : ℕ) (xs ys : List ℕ) → member x (xs ++ ys) ≡ (member x xs || member x ys)
-unfolding member
-member-append x [] ys = refl
-member-append x (y ∷ xs) ys = rw (member-append x xs ys) (sym (or-assoc (eqb x y) (member x xs) (member x ys)))
-
 pub standing-all : (r : List ℕ) → standing [] r ≡ r
 unfolding standing member
 standing-all [] = refl
@@ -103,41 +56,6 @@ strike c gone (x ∷ r) = go (member x gone) (eqb c x) (eqb-sym x c) refl refl (
     go true e s hb he ih = simp (member-append, hb) ih
     go false true s hb he ih = simp (member-append, hb, s, he) ih
     go false false s hb he ih = simp (member-append, hb, s, he) (ap (λ t. x ∷ t) ih)
-
--- ---- n numbers take n places
-pub length-without : (c : ℕ) (xs : List ℕ) → length (without c xs) ≤ length xs
-unfolding without
-length-without c [] = omega arith
-length-without c (x ∷ xs) = go (eqb c x) (length-without c xs)
-  where
-    go : (b : Bool) → length (without c xs) ≤ length xs → length (cond b (without c xs) (x ∷ without c xs)) ≤ suc (length xs)
-    go true h = omega arith
-    go false h = omega arith
-
-pub shorter : (c : ℕ) (xs : List ℕ) → member c xs ≡ true → length (without c xs) < length xs
-unfolding without member
-shorter c [] h = absurd (false≢true h)
-shorter c (x ∷ xs) h = go (eqb c x) refl (shorter c xs)
-  where
-    go : (b : Bool) → eqb c x ≡ b → (member c xs ≡ true → length (without c xs) < length xs) → length (without c (x ∷ xs)) < suc (length xs)
-    go true e ih = simp e (omega (arith, length-without c xs))
-    go false e ih = simp e (omega (arith, ih (simp e at h)))
-
-pub member-without : (c d : ℕ) (xs : List ℕ) → (d ≡ c → ⊥) → member d (without c xs) ≡ member d xs
-unfolding without member
-member-without c d [] ne = refl
-member-without c d (x ∷ xs) ne = go (eqb c x) refl (member-without c d xs ne)
-  where
-    go : (b : Bool) → eqb c x ≡ b → member d (without c xs) ≡ member d xs → member d (without c (x ∷ xs)) ≡ member d (x ∷ xs)
-    go true e ih = let apart : eqb d x ≡ false = ne-eqb d x (λ w. ne (w ∙ sym (eqb-true c x e))) in simp (e, apart) ih
-    go false e ih = simp e (ap (λ t. eqb d x || t) ih)
-
-pub pigeonhole : (n : ℕ) (xs : List ℕ) → ((i : ℕ) → i < n → member (suc i) xs ≡ true) → n ≤ length xs
-pigeonhole zero xs h = omega arith
-pigeonhole (suc n) xs h =
-    let less = shorter (suc n) xs (h n (omega arith)) in
-    let rest = pigeonhole n (without (suc n) xs) (λ i l. member-without (suc n) (suc i) xs (λ e. omega arith) ∙ h i (omega arith)) in
-    omega arith
 
 pub member-standing : (c : ℕ) (gone r : List ℕ) → member c gone ≡ false → member c r ≡ true → 0 < length (standing gone r)
 unfolding standing member

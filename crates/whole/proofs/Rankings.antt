@@ -16,7 +16,7 @@ use Rattle.rules.specs.Count.{member, isRanking}
 use Rattle.rules.specs.Claims.{source}
 use Rattle.jobs.specs.Job.{standing, placeOf}
 use Rattle.rules.specs.Openings.{without}
-use Rattle.whole.proofs.Lists.{eqb-sym}
+use Rattle.rules.proofs.Lists.{eqb-sym}
 
 -- ---- how often a number stands in a list, and how many of 1 .. n a number is
 unfoldable pub times : ℕ → List ℕ → ℕ

@@ -19,7 +19,7 @@ use Rattle.rules.specs.Check.{refused, Test, firstFault, faultBelow, Header, he
 use Rattle.whole.specs.Refusals.{BoardRefusal, JobRefusal, Refusals}
 use Rattle.numbers.proofs.Tests.{by-cases, or-false-left, and-true, all-true}
 use Rattle.whole.proofs.Complete.FineJob.{valid, no-refusal}
-use Rattle.whole.proofs.Faults.{first-holds, fault-none, fault-is, first-faulty}
+use Rattle.rules.proofs.Faults.{first-holds, fault-none, fault-is, first-faulty}
 use Rattle.whole.proofs.Sound.Accepted.{header-good, refused-not-accepted}
 
 abbrev Low : ℕ → Type 0

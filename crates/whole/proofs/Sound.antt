@@ -13,7 +13,8 @@ use lib.ListN.{length}
 use borrow.Author.Tests.{eqb-false}
 use Rattle.numbers.specs.Below.{sumBelow}
 use Rattle.numbers.proofs.Search.{extend}
-use Rattle.whole.proofs.Lists.{length-table, table-same, votes-table, votes-sum, standing-all, first-standing, strike, ranked-processes}
+use Rattle.rules.proofs.Lists.{length-table, table-same, votes-table}
+use Rattle.whole.proofs.Lists.{votes-sum, standing-all, first-standing, strike, ranked-processes}
 use Rattle.numbers.proofs.Tests.{or-false-left}
 use Rattle.numbers.proofs.Sums.{sum-same, sum-constant}
 use Rattle.whole.specs.ThirdDemand.{IsPlain, sheetsOn}

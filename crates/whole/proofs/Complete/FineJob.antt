@@ -16,7 +16,7 @@ use Rattle.rules.specs.Group.{orders, generators}
 use Rattle.group.specs.Elements.{isElement}
 use Rattle.whole.proofs.Orders.{orders-of-test, generators-of-test}
 use Rattle.whole.proofs.Elements.{Good}
-use Rattle.whole.proofs.Faults.{first-holds}
+use Rattle.rules.proofs.Faults.{first-holds}
 use Rattle.rules.specs.Count.{isRanking}
 use Rattle.jobs.specs.Write.{jobFault}
 

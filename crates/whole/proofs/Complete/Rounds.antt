@@ -22,10 +22,11 @@ use Rattle.rules.specs.Openings.{OpensTo, listAt}
 use Rattle.whole.proofs.Complete.FineJob.{Fine}
 use Rattle.whole.proofs.Complete.Written.{secret-at}
 use Rattle.numbers.proofs.Tests.{by-cases, or-false-left}
-use Rattle.whole.proofs.Lists.{length-table, strike}
+use Rattle.rules.proofs.Lists.{length-table}
+use Rattle.whole.proofs.Lists.{strike}
 use Rattle.whole.proofs.Orders.{orders-of-test}
 use Rattle.whole.proofs.Rankings.{times, times-standing, length-struck, once}
-use Rattle.whole.proofs.Complete.Leaving.{In, leaves-in, rounds-over}
+use Rattle.rules.proofs.Leaving.{In, leaves-in, rounds-over}
 use Rattle.whole.proofs.Complete.Matrices.{SameMatrix}
 use Rattle.whole.proofs.Complete.BallotRecord.{ballot-length, ballot-matrix, ballot-fault}
 use Rattle.whole.proofs.Complete.ShiftRecord.{shift-length, shift-matrix, shift-fault}

@@ -27,7 +27,8 @@ use Rattle.numbers.proofs.Residues.{mul-mod}
 use Rattle.numbers.proofs.RootsOfUnity.{pow-order}
 use Rattle.whole.proofs.Elements.{Good}
 use Rattle.whole.proofs.Complete.FineJob.{Fine, good-group}
-use Rattle.whole.proofs.Lists.{table-at, table-same, votes-table, first-standing, ranked-processes}
+use Rattle.rules.proofs.Lists.{table-at, table-same, votes-table}
+use Rattle.whole.proofs.Lists.{first-standing, ranked-processes}
 use Rattle.whole.proofs.Complete.Claims.{prod-powers, prod-pairs}
 use Rattle.whole.proofs.Complete.Matrices.{SameMatrix}
 use Rattle.whole.proofs.Complete.Places.{Stands, stands-left, stands-right, stands-moved, stands-block, byte-stands, half-stands, word-stands}

@@ -7,7 +7,7 @@ use mathlib.Core.Option.{Option, none, some}
 use mathlib.Core.Logic.{_⊎_, inl, inr, ⊎-elim}
 use native.Mathlib.Numerals.{add-one}
 use native.Mathlib.Omega.{arith}
-use Rattle.whole.proofs.Faults.{first-holds, none-faulty}
+use Rattle.rules.proofs.Faults.{first-holds, none-faulty}
 use Rattle.numbers.specs.Below.{sumBelow, prodBelow}
 use Rattle.numbers.proofs.Sums.{sum-same, sum-last, sum-zero}
 use Rattle.rules.specs.Records.{RT, hasMark, recordAt, recordNumber, sheetLength, roundAt}

@@ -8,8 +8,8 @@ use mathlib.Core.List.{List, [], _∷_}
 use mathlib.Core.Logic.{_⊎_, inl, inr, ⊎-elim}
 use lib.Dec.{leb, eqb}
 use lib.ListN.{length, getD, length-append}
 use Rattle.rules.specs.Count.{member, Standing, lowest, leaves, closes, next, countsOf, countFrom}
-use Rattle.whole.proofs.Lists.{pigeonhole}
+use Rattle.rules.proofs.Lists.{pigeonhole}
 use Rattle.numbers.proofs.Tests.{by-cases}
 
 -- one of 1 .. i that is still in

@@ -1,0 +1,4 @@
+-- Laws of the rules' definitions.
+pub mod Faults
+pub mod Lists
+pub mod Leaving
