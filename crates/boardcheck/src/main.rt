@@ -37,7 +37,7 @@ fn print(answer: Answer, order: [u8; 8]) {
         }
         Answer::Refused { refusal, record } => {
             io::write_all(STDOUT_FILENO, b"refused ");
-            number(checker::refusal_number(refusal));
+            number(rules::refusal_number(refusal));
             io::write_all(STDOUT_FILENO, b" ");
             number(record);
             line();

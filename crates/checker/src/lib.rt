@@ -23,29 +23,6 @@ mod reading;
 pub mod stages;
 pub mod turns;
 
-// The number of a refusal in the table.
-pub fn refusal_number(r: Refusal) -> usize
-    ensures { λ n. ⌜ n ≡ refusalNumber r ⌝ }
-{
-    match r {
-        Refusal::Length => 1,
-        Refusal::Mark => 2,
-        Refusal::Sizes => 3,
-        Refusal::Orders => 4,
-        Refusal::Generators => 5,
-        Refusal::Number => 6,
-        Refusal::Field => 7,
-        Refusal::Proof => 8,
-        Refusal::Count => 9,
-        Refusal::Tally => 10,
-        Refusal::Out => 11,
-        Refusal::Remain => 12,
-        Refusal::Rankings => 13,
-        Refusal::Draws => 14,
-        Refusal::Output => 15,
-    }
-}
-
 fn refused(why: Refusal, place: usize) -> Checked
     ensures { λ r. ⌜ (verdictOf r ≡ refused (refusalNumber why) place) × (r .order ≡ replicate 8 0) ⌝ }
 {

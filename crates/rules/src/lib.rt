@@ -1,4 +1,6 @@
 // The checker's answer. The rules themselves are definitions, in specs/; specs/Answers.antt gives the number and the values of each case.
+ghost use mathlib.Core.Path.{_≡_};
+ghost use Rattle.rules.specs.Answers.{refusalNumber};
 
 // Why a board or a job is refused.
 pub enum Refusal {
@@ -32,6 +34,29 @@ pub enum Refusal {
     Draws,
     // 15: the output is shorter than the board.
     Output,
+}
+
+// The number of a refusal in the table.
+pub fn refusal_number(r: Refusal) -> usize
+    ensures { λ n. ⌜ n ≡ refusalNumber r ⌝ }
+{
+    match r {
+        Refusal::Length => 1,
+        Refusal::Mark => 2,
+        Refusal::Sizes => 3,
+        Refusal::Orders => 4,
+        Refusal::Generators => 5,
+        Refusal::Number => 6,
+        Refusal::Field => 7,
+        Refusal::Proof => 8,
+        Refusal::Count => 9,
+        Refusal::Tally => 10,
+        Refusal::Out => 11,
+        Refusal::Remain => 12,
+        Refusal::Rankings => 13,
+        Refusal::Draws => 14,
+        Refusal::Output => 15,
+    }
 }
 
 pub enum Answer {

@@ -41,7 +41,7 @@ pub fn result(rounds: usize, order: [u8; 8], winner: usize) {
 // A refusal's number, and the record or the ranking beside it.
 pub fn refused(refusal: Refusal, place: usize) {
     text(b"refused ");
-    number(checker::refusal_number(refusal));
+    number(rules::refusal_number(refusal));
     text(b" ");
     number(place);
 }
