@@ -13,18 +13,12 @@ ghost use Rattle.jobs.specs.Board.{pairBytes};
 ghost use Rattle.output.specs.Written.{written};
 ghost use Rattle.ballots.specs.Parts.{opened, matrixOf};
 
-fn wide(x: u8) -> usize
-    ensures { λ r. ⌜ r ≡ x ⌝ }
-{
-    x as usize
-}
-
 // What the pair at row i and column j opens to.
 pub fn opened(list: [u8; 8], i: usize, j: usize) -> u32
     requires { ⌜ (i < 8) × (j < 8) ⌝ }
     ensures { λ r. ⌜ (r ≡ opened (λ k. getD list k 0) i j) × (r < 2) ⌝ }
 {
-    if wide(list[i]) == j + 1 {
+    if numbers::wide(list[i]) == j + 1 {
         return 1;
     }
     0

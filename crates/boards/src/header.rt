@@ -12,14 +12,14 @@ ghost use Rattle.jobs.specs.Board.{headerBytes};
 ghost use Rattle.output.specs.Written.{written};
 ghost use Rattle.boards.specs.Parts.{boardJob};
 
-fn low(x: usize) -> u8
+pub fn low(x: usize) -> u8
     requires { ⌜ x < 256 ⌝ }
     ensures { λ r. ⌜ r ≡ x ⌝ }
 {
     x as u8
 }
 
-fn half(x: usize) -> u32
+pub fn half(x: usize) -> u32
     requires { ⌜ x < 65536 ⌝ }
     ensures { λ r. ⌜ r ≡ x ⌝ }
 {

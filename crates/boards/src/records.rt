@@ -1,5 +1,6 @@
 // The records of a round's ballots.
 use crate::Size;
+use crate::header;
 use ballots::ballot;
 use ballots::shift;
 use ballots::shift::Shift;
@@ -30,19 +31,6 @@ pub struct Turn {
     pub new: usize,
 }
 
-fn wide(x: u8) -> usize
-    ensures { λ r. ⌜ r ≡ x ⌝ }
-{
-    x as usize
-}
-
-fn half(x: usize) -> u32
-    requires { ⌜ x < 65536 ⌝ }
-    ensures { λ r. ⌜ r ≡ x ⌝ }
-{
-    x as u32
-}
-
 // Ballot b, from 0, in the first round.
 fn write_first(
     out: &mut [u8],
@@ -62,7 +50,7 @@ fn write_first(
     let gone = turn.gone;
     let list = rankings::still_in(rankings, first, n, gone);
     let here = turn.new + b * rounds::record_draws(n, 0);
-    ballot::write_ballot(out, label, g, n, half(b + 1), list, draws, here);
+    ballot::write_ballot(out, label, g, n, header::half(b + 1), list, draws, here);
 }
 
 // Ballot b in a later round.
@@ -89,11 +77,11 @@ fn write_later(
     let s = Shift {
         n,
         rows: n - m,
-        number: half(b + 1),
+        number: header::half(b + 1),
         before,
         after,
         struck: rankings::place_of(before, n - m + 1, turn.a),
-        column: wide(turn.a) - 1,
+        column: numbers::wide(turn.a) - 1,
         old: turn.old + b * rounds::record_draws(n, m - 1),
         new: turn.new + b * rounds::record_draws(n, m),
     };

@@ -22,13 +22,6 @@ ghost use Rattle.output.specs.Written.{written};
 ghost use Rattle.statements.specs.Values.{Ready};
 ghost use Rattle.boards.specs.Parts.{boardJob, Told, Able, roundOf};
 
-fn low(x: usize) -> u8
-    requires { ⌜ x < 256 ⌝ }
-    ensures { λ r. ⌜ r ≡ x ⌝ }
-{
-    x as u8
-}
-
 // Round m of a board whose processes go out in an order; its draws start at a place.
 fn turn_of(size: Size, order: [u8; 8], m: usize, from: usize) -> Turn
     requires { ⌜ (size .n ≤ 8) × (m < size .n) × (size .k ≤ 1000) × (from ≡ roundDraws (size .n) (size .k) m) ⌝ }
@@ -85,7 +78,7 @@ fn write_round(
         &mut out[at..],
         q,
         n,
-        low(m),
+        header::low(m),
         order[m],
         counts,
         draws,

@@ -21,12 +21,6 @@ pub struct Count {
     pub sheets: [Sheet; 8],
 }
 
-fn wide(x: u8) -> usize
-    ensures { λ r. ⌜ r ≡ x ⌝ }
-{
-    x as usize
-}
-
 fn wide64(x: u32) -> u64
     ensures { λ r. ⌜ (r ≡ x) × (r < 4294967296) ⌝ }
 {
@@ -80,7 +74,7 @@ impl Gone {
         let order = self.order;
         let outs = self.outs;
         for i in 0..outs {
-            if wide(order[i]) == c {
+            if numbers::wide(order[i]) == c {
                 return true;
             }
         }

@@ -11,12 +11,6 @@ ghost use Rattle.group.specs.Elements.{parametersOf};
 ghost use Rattle.rules.specs.Bytes.{bytes4};
 ghost use Rattle.rules.specs.Group.{sizes, orders, derived, generators};
 
-fn wide(x: u32) -> usize
-    ensures { λ r. ⌜ r ≡ x ⌝ }
-{
-    x as usize
-}
-
 pub fn sizes_good(n: usize, k: usize) -> bool
     ensures { λ r. ⌜ r ≡ sizes n k ⌝ }
 {
@@ -48,7 +42,7 @@ pub fn orders_good(n: usize, k: usize, p: u32, q: u32) -> bool
     if (p - 1) % q != 0 {
         return false;
     }
-    let order = wide(q);
+    let order = numbers::wide32(q);
     if order <= n {
         return false;
     }

@@ -10,19 +10,13 @@ ghost use Rattle.jobs.specs.Job.{Job, standing, placeOf};
 ghost use Rattle.jobs.specs.Write.{firstBad};
 ghost use Rattle.count.specs.State.{listOf, Listed};
 
-fn wide(x: u8) -> usize
-    ensures { λ r. ⌜ r ≡ x ⌝ }
-{
-    x as usize
-}
-
 // Whether process c stands on it.
 fn lists(rankings: &[u8], at: usize, n: usize, c: usize) -> bool
     requires { ⌜ at + n ≤ length (now rankings) ⌝ }
     ensures { λ r. ⌜ r ≡ member c (part (now (rankings .entry)) at n) ⌝ }
 {
     for i in 0..n {
-        if wide(rankings[at + i]) == c {
+        if numbers::wide(rankings[at + i]) == c {
             return true;
         }
     }
@@ -76,7 +70,7 @@ pub fn first_in(rankings: &[u8], at: usize, n: usize, gone: Gone) -> usize
     ensures { λ r. ⌜ r ≡ firstIn n (listOf gone) (part (now (rankings .entry)) at n) ⌝ }
 {
     for i in 0..n {
-        let c = wide(rankings[at + i]);
+        let c = numbers::wide(rankings[at + i]);
         if is_in(c, n, gone) {
             return c;
         }
@@ -93,7 +87,7 @@ pub fn still_in(rankings: &[u8], at: usize, n: usize, gone: Gone) -> [u8; 8]
     let mut found = 0;
     for i in 0..n {
         let c = rankings[at + i];
-        if !gone.is_out(wide(c)) {
+        if !gone.is_out(numbers::wide(c)) {
             list[found] = c;
             found += 1;
         }

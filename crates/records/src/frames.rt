@@ -10,18 +10,6 @@ ghost use Rattle.rules.specs.Records.{RT, hasMark};
 ghost use Rattle.records.specs.Faults.{Framed};
 ghost use Rattle.records.specs.Sizes.{sheetSize};
 
-fn wide(x: u8) -> usize
-    ensures { λ r. ⌜ r ≡ x ⌝ }
-{
-    x as usize
-}
-
-fn wide32(x: u32) -> usize
-    ensures { λ r. ⌜ r ≡ x ⌝ }
-{
-    x as usize
-}
-
 pub fn has_mark(board: &[u8], at: usize, c: u8, d: u8) -> bool
     requires { ⌜ at + 2 ≤ length (now board) ⌝ }
     ensures { λ r. ⌜ r ≡ hasMark (now (board .entry)) at (c ∷ d ∷ []) ⌝ }
@@ -38,7 +26,7 @@ pub fn number(board: &[u8], at: usize) -> usize
     requires { ⌜ at + 2 ≤ length (now board) ⌝ }
     ensures { λ r. ⌜ r ≡ half (now (board .entry)) at ⌝ }
 {
-    wide32(fields::half(board, at))
+    numbers::wide32(fields::half(board, at))
 }
 
 // The number of 1 byte at a place.
@@ -46,7 +34,7 @@ pub fn byte(board: &[u8], at: usize) -> usize
     requires { ⌜ at < length (now board) ⌝ }
     ensures { λ r. ⌜ r ≡ getD (now (board .entry)) at 0 ⌝ }
 {
-    wide(board[at])
+    numbers::wide(board[at])
 }
 
 // A BA or SH record: its length, mark and number.

@@ -64,7 +64,7 @@ returns-6 c =
       lt-ltb (a .p) (2 ^ 31) (omega arith),
       eq-eqb ((a .p - 1) % a .q) 0 (c .before .before .if4 .left),
       lt-ltb (a .n) (a .q) (omega arith),
-      c .before .wide .ensures,
+      c .before .wide32 .ensures,
     )
 
 pub orders-good-spec : {M : Type 1} → statement M
