@@ -27,12 +27,15 @@ length-later n (suc m) h = refl
 pub squares : (n : ℕ) → n ≤ 8 → n * n ≤ 64
 squares n h = let u : n * n ≤ 8 * n = mul-le-mul-right n h in omega arith
 
-pub rows-few : (n m : ℕ) → n ≤ 8 → (m ≡ 0 → ⊥) → n - m ≤ 7
-rows-few n zero h k = absurd (k refl)
-rows-few n (suc m) h k = omega arith
+-- a later round has few rows and pairs, and at most 8 branches
+pub record Later (n m branch : ℕ) : Type 0 where
+  pub rows : n - m ≤ 7
+  pub pairs : (n - m) * n ≤ 56
+  pub branches : (n - m + 1) * branch ≤ 8 * branch
 
-pub pairs-few : (n m : ℕ) → n ≤ 8 → (m ≡ 0 → ⊥) → (n - m) * n ≤ 56
-pairs-few n m h k = let u : (n - m) * n ≤ 7 * n = mul-le-mul-right n (rows-few n m h k) in omega arith
-
-pub eight : (r x : ℕ) → r ≤ 7 → (r + 1) * x ≤ 8 * x
-eight r x h = mul-le-mul-right x (omega arith)
+pub later : (n m branch : ℕ) → n ≤ 8 → (m ≡ 0 → ⊥) → Later n m branch
+later n zero branch h k = absurd (k refl)
+later n (suc m) branch h k =
+    let few : n - suc m ≤ 7 = omega arith in
+    let u : (n - suc m) * n ≤ 7 * n = mul-le-mul-right n few in
+    record { rows = few; pairs = omega arith; branches = mul-le-mul-right branch (omega arith) }
