@@ -1,6 +1,6 @@
 // The records of a ballot: its first matrix with its proofs, and a later one with the proof of its shift.
 pub mod ballot;
-pub mod lines;
-pub mod pairs;
+mod lines;
+mod pairs;
 pub mod shift;
 pub mod sums;

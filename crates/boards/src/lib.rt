@@ -1,8 +1,8 @@
 // The board of a job, record by record, each into the unwritten rest of a lent output.
-pub mod header;
-pub mod records;
+mod header;
+mod records;
 pub mod rounds;
-pub mod sheet;
+mod sheet;
 
 // A board's size, and the counter that made its g1.
 pub struct Size {

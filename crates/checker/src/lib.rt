@@ -20,8 +20,8 @@ ghost use Rattle.count.specs.State.{standingOf, Kept};
 ghost use Rattle.records.specs.Heads.{headOf, Known, Opening};
 
 mod reading;
-pub mod stages;
-pub mod turns;
+mod stages;
+mod turns;
 
 fn refused(why: Refusal, place: usize) -> Checked
     ensures { λ r. ⌜ (verdictOf r ≡ refused (refusalNumber why) place) × (r .order ≡ replicate 8 0) ⌝ }

@@ -49,7 +49,7 @@ fn code(refusal: Refusal, place: usize) -> usize
     requires { ⌜ place ≤ 7008 ⌝ }
     ensures { λ r. ⌜ r ≡ refusalCode (refusalNumber refusal) place ⌝ }
 {
-    checker::refusal_number(refusal) + 256 * place
+    rules::refusal_number(refusal) + 256 * place
 }
 
 // What check answered: its code is returned, and the result of an accepted board is put into the answer.

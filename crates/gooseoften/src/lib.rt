@@ -4,7 +4,7 @@ use writer::Job;
 ghost use mathlib.Core.Path.{_≡_};
 ghost use Rattle.gooseoften.specs.Answers.{job, checkCode, checkAnswer, checkCall, writeCode, writeAnswer, writeCall, writeOut};
 
-pub mod answers;
+mod answers;
 
 // The verdict on a board.
 #[no_mangle]

@@ -24,7 +24,7 @@ fn lists(rankings: &[u8], at: usize, n: usize, c: usize) -> bool
 }
 
 // Whether every process stands on it.
-pub fn is_ranking(rankings: &[u8], at: usize, n: usize) -> bool
+fn is_ranking(rankings: &[u8], at: usize, n: usize) -> bool
     requires { ⌜ at + n ≤ length (now rankings) ⌝ }
     ensures { λ r. ⌜ r ≡ isRanking n (part (now (rankings .entry)) at n) ⌝ }
 {

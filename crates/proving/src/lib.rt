@@ -13,8 +13,8 @@ ghost use Rattle.statements.specs.Claims.{claimOf};
 ghost use Rattle.output.specs.Written.{written};
 ghost use Rattle.proving.specs.Plans.{Drawn, Planned, Committed, againstOf, proofOf};
 
-pub mod branch;
-pub mod statement;
+mod branch;
+mod statement;
 
 // The size of a proof, the branch whose witness is known, and where its draws start.
 pub struct Plan {

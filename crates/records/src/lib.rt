@@ -13,7 +13,7 @@ ghost use Rattle.statements.specs.Claims.{claimOf, Within};
 ghost use Rattle.records.specs.Heads.{Known};
 
 pub mod ballot;
-pub mod frames;
+mod frames;
 pub mod header;
 pub mod sheet;
 pub mod shift;

@@ -22,7 +22,7 @@ ghost use Rattle.boards.specs.Parts.{boardJob, Able};
 ghost use Rattle.writer.specs.Jobs.{jobOf};
 ghost use Rattle.writer.specs.Steps.{bytesOf, Put};
 
-pub mod tests;
+mod tests;
 
 // The numbers of a job: of processes and ballots, p, q, g0 and the counter.
 pub struct Job {

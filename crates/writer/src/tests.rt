@@ -24,7 +24,7 @@ pub enum Tested {
 }
 
 // The group of a job, g1 worked out.
-pub fn group_of(job: Job, label: &[u8]) -> Group
+fn group_of(job: Job, label: &[u8]) -> Group
     requires { ⌜ (0 < job .p) × (0 < job .q) ⌝ }
     ensures { λ r. ⌜ parametersOf r ≡ groupOf sha256 (jobOf job (now (label .entry)) [] []) ⌝ }
 {
@@ -39,7 +39,7 @@ pub fn group_of(job: Job, label: &[u8]) -> Group
 }
 
 // The label's length, and the rules on g0 and g1.
-pub fn label_good(label: &[u8], counter: u8, g: Group) -> bool
+fn label_good(label: &[u8], counter: u8, g: Group) -> bool
     requires { ⌜ (0 < g .p) × (0 < g .q) ⌝ }
     ensures { λ r. ⌜ r ≡ (eqb (length (now (label .entry))) 32 && generators sha256 (now (label .entry)) counter (parametersOf g)) ⌝ }
 {
