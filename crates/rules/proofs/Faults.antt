@@ -1,18 +1,19 @@
 -- Laws of the first fault: of a list of tests, and of the records of a round.
 use Prim.Native.Nat.{ℕ, zero, suc, _<_}
-use mathlib.Core.Path.{_≡_, refl, sym, _∙_}
+use mathlib.Core.Path.{_≡_, refl, sym, ap, _∙_}
+use mathlib.Core.Logic.{_⊎_, inl, inr, ⊎-elim}
 use mathlib.Core.Bool.{Bool, true, false}
 use mathlib.Core.List.{List, [], _∷_}
 use mathlib.Core.Option.{Option, none, some}
-use native.Mathlib.Nat.{not-suc-le-zero}
+use native.Mathlib.Nat.{not-suc-le-zero, eq-or-lt-of-le, le-of-suc-le-suc}
 use native.Mathlib.Omega.{arith}
 use lib.Dec.{eqb}
-use borrow.Author.Tests.{eqb-true, eqb-false}
+use borrow.Author.Tests.{eqb-true, eqb-false, ne-eqb}
 use Rattle.numbers.proofs.Search.{extend}
 use Rattle.numbers.proofs.Tests.{by-cases}
 use Rattle.rules.specs.Check.{Test, firstFault, faultBelow}
 
-none-some : {A : Type 0} {a : A} → none ≡ some a → ⊥
+pub none-some : {A : Type 0} {a : A} → none ≡ some a → ⊥
 none-some e = let z : _≡_ {A = ℕ} 0 1 = cc in omega arith
 
 some-none : {A : Type 0} {a : A} → some a ≡ none → ⊥
@@ -26,6 +27,10 @@ first-holds t ts l h = go (t .holds) refl
     go true e = (e, simp e at h)
     go false e = let z : t .refusal ≡ 0 = simp e at h in absurd (omega arith)
 
+pub all-hold : (t : Test) (ts : List Test) → t .holds ≡ true → firstFault ts ≡ 0 → firstFault (t ∷ ts) ≡ 0
+unfolding firstFault
+all-hold t ts h e = rw h e
+
 -- where no number has a fault, each has none
 pub none-faulty : (K : ℕ) (f : ℕ → ℕ) → faultBelow K f ≡ none → (k : ℕ) → k < K → f k ≡ 0
 unfolding faultBelow
@@ -38,11 +43,17 @@ none-faulty (suc K) f e = go (faultBelow K f) (eqb (f K) 0) refl refl (none-faul
     go none false ev eb ih = absurd (some-none (rw (ev, eb, faultBelow) at e))
     go none true ev eb ih = extend (λ (k : ℕ). f k ≡ 0) K (ih ev) (eqb-true (f K) 0 eb)
 
+pub no-fault : (K : ℕ) (f : ℕ → ℕ) → ((k : ℕ) → k < K → f k ≡ 0) → faultBelow K f ≡ none
+unfolding faultBelow
+no-fault zero f e = refl
+no-fault (suc K) f e = rw (no-fault K f (λ k l. e k (omega arith)), e K (omega arith))
+
 -- the first that has a fault
 pub record Faulty (K : ℕ) (f : ℕ → ℕ) (w : ℕ × ℕ) : Type 0 where
   pub below : w .0 < K
   pub fault : w .1 ≡ f (w .0)
   pub some-fault : f (w .0) ≡ 0 → ⊥
+  pub earlier : (k : ℕ) → k < w .0 → f k ≡ 0
 
 pub first-faulty : (K : ℕ) (f : ℕ → ℕ) (w : ℕ × ℕ) → faultBelow K f ≡ some w → Faulty K f w
 unfolding faultBelow
@@ -52,13 +63,29 @@ first-faulty (suc K) f w e = go (faultBelow K f) (eqb (f K) 0) refl refl (first-
     go : (v : Option (ℕ × ℕ)) (b : Bool) → faultBelow K f ≡ v → eqb (f K) 0 ≡ b → (faultBelow K f ≡ some w → Faulty K f w) → Faulty (suc K) f w
     go (some v) b ev eb ih =
         let o = ih (ev ∙ rw (ev, faultBelow) at e) in
-        record { below = omega (arith, o .below); fault = o .fault; some-fault = o .some-fault }
+        record { below = omega (arith, o .below); fault = o .fault; some-fault = o .some-fault; earlier = o .earlier }
     go none true ev eb ih = absurd (none-some (rw (ev, eb, faultBelow) at e))
     go none false ev eb ih =
         let q : some (K, f K) ≡ some w = rw (ev, eb, faultBelow) at e in
         let q0 : K ≡ w .0 = cc in
         let q1 : f K ≡ w .1 = cc in
-        record { below = omega arith; fault = rw (← q0) (sym q1); some-fault = rw (← q0) (eqb-false (f K) 0 eb) }
+        record { below = omega arith; fault = rw (← q0) (sym q1); some-fault = rw (← q0) (eqb-false (f K) 0 eb); earlier = rw (← q0) (none-faulty K f ev) }
+
+pub fault-at : (K : ℕ) (f : ℕ → ℕ) (k : ℕ) → k < K → ((j : ℕ) → j < k → f j ≡ 0) → (f k ≡ 0 → ⊥) → faultBelow K f ≡ some (k, f k)
+unfolding faultBelow
+fault-at zero f k l earlier bad = absurd (not-suc-le-zero l)
+fault-at (suc K) f k l earlier bad =
+    ⊎-elim
+    (λ (e : k ≡ K). rw (no-fault K f (λ j b. earlier j (omega arith)), ne-eqb (f K) 0 (λ z. bad (ap f e ∙ z)), ← e))
+    (λ (b : k < K). rw (fault-at K f k b earlier bad))
+    (eq-or-lt-of-le (le-of-suc-le-suc l))
+
+pub faulty-or-none : (K : ℕ) (f : ℕ → ℕ) → ((w : ℕ × ℕ) × Faulty K f w) ⊎ ((k : ℕ) → k < K → f k ≡ 0)
+faulty-or-none K f = go (faultBelow K f) refl
+  where
+    go : (v : Option (ℕ × ℕ)) → faultBelow K f ≡ v → ((w : ℕ × ℕ) × Faulty K f w) ⊎ ((k : ℕ) → k < K → f k ≡ 0)
+    go (some w) e = inl (w, first-faulty K f w e)
+    go none e = inr (none-faulty K f e)
 
 pub fault-none : firstFault [] ≡ 0
 unfolding firstFault

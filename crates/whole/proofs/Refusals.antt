@@ -3,30 +3,28 @@ use Prim.Native.Nat.{ℕ, zero, suc, _+_, _*_, _-_, _≤_, _<_}
 use mathlib.Core.Path.{_≡_, refl, sym, _∙_}
 use mathlib.Core.Bool.{Bool, true, false, cond, _&&_, true≢false, and-eq-true-iff}
 use mathlib.Core.List.{List, [], _∷_, _++_, append-assoc}
-use mathlib.Core.Option.{Option, none, some}
-use native.Mathlib.Nat.{pos-of-ne-zero, mul-le-mul-right}
+use native.Mathlib.Nat.{mul-le-mul-right}
 use native.Mathlib.Omega.{arith}
 use lib.Dec.{eqb}
 use lib.ListN.{length, length-append}
 use borrow.Author.Tests.{leb-true, eqb-true, eqb-false, eq-eqb, ne-eqb}
-use Rattle.rules.specs.Records.{headerLength, sheetLength, recordNumber, recordAt, roundAt}
+use Rattle.rules.specs.Records.{roundAt}
 use Rattle.rules.specs.Group.{sizes}
-use Rattle.rules.specs.Count.{countsOf, countFrom, plainCount, member, Standing, start, next, leaves, closes, isRanking}
+use Rattle.rules.specs.Count.{countsOf, countFrom, plainCount, member, Standing, start, next, closes, isRanking}
 use Rattle.jobs.specs.Job.{Job, rankingOf}
 use Rattle.jobs.specs.Write.{rankingsGood, jobFault, firstBad, which, boardWritten, jobRefused, writeOutcome}
 use Rattle.numbers.proofs.Search.{extend}
-use Rattle.rules.specs.Check.{refused, Test, firstFault, faultBelow, Header, header, place, counts, sheetFields, sheetFault, due, headerFault, recordFault, roundVerdict, checkFrom, checkBoard}
+use Rattle.rules.specs.Check.{refused, Test, firstFault, Header, header, sheetFields, sheetFault, headerFault, recordFault, checkBoard}
 use Rattle.whole.specs.Refusals.{BoardRefusal, JobRefusal, Refusals}
 use Rattle.numbers.proofs.Tests.{by-cases, or-false-left, and-true, all-true}
 use Rattle.whole.proofs.Complete.FineJob.{valid, no-refusal}
-use Rattle.rules.proofs.Faults.{first-holds, fault-none, fault-is, first-faulty}
-use Rattle.whole.proofs.Sound.Accepted.{header-good, refused-not-accepted}
+use Rattle.rules.proofs.Faults.{fault-none, fault-is}
+use Rattle.whole.proofs.Sound.Accepted.{header-good}
+use Rattle.whole.specs.SecondDemand.{outBefore, dueAt, FirstBroken, in-header, in-record, in-sheet, at-end}
+use Rattle.whole.proofs.SecondDemand.{Passed, Open, passed-of, passed-fewer, of-open, next-number, early, sheet-fits, second-demand}
 
 abbrev Low : ℕ → Type 0
 Low x = x ≤ 12
-
-refused-same : {a b c d : ℕ} → refused a b ≡ refused c d → (a ≡ c) × (b ≡ d)
-refused-same e = (cc, cc)
 
 low-none : Low (firstFault [])
 low-none = rw fault-none (omega arith)
@@ -59,116 +57,50 @@ module _ (hash : List ℕ → List ℕ) (s : List ℕ) where
     low-sheet m out =
         low _ _ (omega arith) (low _ _ (omega arith) (low _ _ (omega arith) (low-fields s h m (h .n) _ (low _ _ (omega arith) (low _ _ (omega arith) low-none)))))
 
-    -- what a refusal from round m on names
-    record Named (m number record-number : ℕ) : Type 0 where
-      low : 1 ≤ number
-      high : number ≤ 12
-      last : ℕ
-      few : last + 1 ≤ h .n - 1
-      from : m ≤ last
-      stands : roundAt (h .n) (h .K) last ≤ length s
-      within : record-number ≤ (last + 1) * (h .K + 1) + 1
+  -- round m begins on the board
+  begins : (m : ℕ) → Passed hash s m → roundAt (header s .n) (header s .K) m ≤ length s
+  unfolding roundAt
+  begins zero p = p .head .fits
+  begins (suc m) p = sheet-fits hash s m (p .sheets m (omega arith))
 
-    -- what is known as round m begins
-    record Begun (fuel m : ℕ) (st : Standing) : Type 0 where
-      fuelled : fuel + m ≡ h .n
-      early : m + 2 ≤ h .n
-      sheeted : length (st .sheets) ≡ m
-      reached : roundAt (h .n) (h .K) m ≤ length s
-
-    -- a refusal in round m itself
-    here : {fuel m : ℕ} {st : Standing} (number k : ℕ) → Begun fuel m st → (number ≡ 0 → ⊥) → Low number → k ≤ (m + 1) * (h .K + 1) + 1 → Named m number k
-    here {m = m} number k b ne l within =
-        record { low = pos-of-ne-zero ne; high = l; last = m; few = omega (arith, b .early); from = omega arith; stands = b .reached; within = within }
-
-    later : {m number k : ℕ} → Named (suc m) number k → Named m number k
-    later w =
-        record { low = w .low; high = w .high; last = w .last; few = w .few; from = omega (arith, w .from); stands = w .stands; within = w .within }
-
-    -- after a sheet without fault that does not close
-    begun-next : (fuel m out : ℕ) (st : Standing) → Begun (suc fuel) m st → sheetFault s h m out ≡ 0 → closes (h .n) st (counts s h m) (h .K) ≡ false →
-        Begun fuel (suc m) (next (h .n) st (counts s h m))
-    unfolding closes sheetFault roundAt recordAt
-    begun-next fuel m out st b f c =
-        let not-last = eqb-false (length (st .sheets) + 1) (h .n - 1) (or-false-left _ _ c) in
-        let fits : place h m (h .K) + sheetLength (h .n) ≤ length s = leb-true _ _ (first-holds _ _ (omega arith) f .0) in
-        record {
-          fuelled = omega (arith, b .fuelled);
-          early = omega (arith, b .early, b .sheeted, not-last);
-          sheeted = omega (arith, length-append (st .sheets) (counts s h m ∷ []), b .sheeted);
-          reached = fits;
-        }
-
-    named : (fuel : ℕ) (st : Standing) (m a number k : ℕ) → Begun fuel m st → checkFrom hash s h fuel st m a ≡ refused number k → Named m number k
-    unfolding checkFrom roundVerdict
-    named zero st m a number k b e = absurd (omega (arith, b .fuelled, b .early))
-    named (suc fuel) st m a number k b e =
-        go (faultBelow (h .K) (recordFault hash s h a m)) (eqb fault 0) (closes (h .n) st (counts s h m) (h .K)) (eqb (length s) (place h m (h .K) + sheetLength (h .n)))
-        refl refl refl refl (named fuel (next (h .n) st (counts s h m)) (suc m) (leaves (h .n) st (counts s h m)) number k)
-      where
-        fault : ℕ
-        fault = sheetFault s h m (due h st (counts s h m))
-
-        go : (v : Option (ℕ × ℕ)) (good closed ends : Bool) →
-            faultBelow (h .K) (recordFault hash s h a m) ≡ v → eqb fault 0 ≡ good → closes (h .n) st (counts s h m) (h .K) ≡ closed →
-            eqb (length s) (place h m (h .K) + sheetLength (h .n)) ≡ ends →
-            (Begun fuel (suc m) (next (h .n) st (counts s h m)) →
-            checkFrom hash s h fuel (next (h .n) st (counts s h m)) (suc m) (leaves (h .n) st (counts s h m)) ≡ refused number k → Named (suc m) number k) →
-            Named m number k
-        go (some w) good closed ends ev eg ec en ih =
-            let q = refused-same (rw (ev, roundVerdict) at e) in
-            let f = first-faulty (h .K) (recordFault hash s h a m) w ev in
-            rw (← (q .0), ← (q .1))
-            (here (w .1) (recordNumber (h .K) m (w .0)) b (λ z. f .some-fault (sym (f .fault) ∙ z)) (rw (f .fault) (low-record a m (w .0))) (omega (arith, f .below)))
-        go none false closed ends ev eg ec en ih =
-            let q = refused-same (rw (ev, eg, roundVerdict) at e) in
-            rw (← (q .0), ← (q .1))
-            (here fault (recordNumber (h .K) m (h .K)) b (eqb-false fault 0 eg) (low-sheet m _) (omega arith))
-        go none true true true ev eg ec en ih = absurd (refused-not-accepted (sym (rw (ev, eg, ec, en, roundVerdict) at e)))
-        go none true true false ev eg ec en ih =
-            let q = refused-same (rw (ev, eg, ec, en, roundVerdict) at e) in
-            rw (← (q .0), ← (q .1)) (here 12 (recordNumber (h .K) m (h .K) + 1) b (λ z. omega arith) (omega arith) (omega arith))
-        go none true false ends ev eg ec en ih =
-            later (ih (begun-next fuel m _ st b (eqb-true fault 0 eg) ec) (rw (ev, eg, ec, roundVerdict) at e))
-
-  header-bound : (f : headerFault hash s ≡ 0) → headerLength ≤ length s
-  unfolding headerFault
-  header-bound f = leb-true _ _ (first-holds _ _ (omega arith) f .0)
+  -- a refusal in round m
+  named : (m number k : ℕ) → Passed hash s m → Open hash s m → 1 ≤ number → Low number → k ≤ (m + 1) * (header s .K + 1) + 1 → BoardRefusal s number k
+  named m number k p o low high within =
+      let early = early hash s m (p .head) o in
+      let good = header-good hash s (p .head) in
+      record {
+        low = low;
+        high = high;
+        rounds = m + 1;
+        few = omega arith;
+        stands = λ r q. let same : r ≡ m = omega arith in rw same (begins m p);
+        within = within;
+        most =
+            let up : (m + 1) * (header s .K + 1) ≤ 7 * (header s .K + 1) = mul-le-mul-right (header s .K + 1) (omega (arith, good .eight)) in
+            omega (arith, good .thousand);
+      }
 
   pub board-refusal : (number k : ℕ) → checkBoard hash s ≡ refused number k → BoardRefusal s number k
-  unfolding checkBoard roundAt
-  board-refusal number k e = go (eqb (headerFault hash s) 0) refl
+  board-refusal number k e = go (second-demand hash .refused-iff s number k .0 e)
     where
-      go : (b : Bool) → eqb (headerFault hash s) 0 ≡ b → BoardRefusal s number k
-      go true w =
-          let f = eqb-true _ _ w in
-          let good = header-good hash s f in
-          let n = named (header s) (header s .n) start 0 0 number k
-          (record { fuelled = omega arith; early = good .two; sheeted = refl; reached = header-bound f }) (rw (w, checkBoard) at e) in
+      go : FirstBroken hash s number k → BoardRefusal s number k
+      go (in-header q broken low) =
           record {
-            low = n .low;
-            high = n .high;
-            rounds = n .last + 1;
-            few = n .few;
-            stands = λ m q. let same : m ≡ n .last = omega arith in rw same (n .stands);
-            within = n .within;
-            most =
-                let few : n .last + 1 ≤ 7 = omega (arith, n .few, good .eight) in
-                let up : (n .last + 1) * (header s .K + 1) ≤ 7 * (header s .K + 1) = mul-le-mul-right (header s .K + 1) few in
-                omega (arith, n .within, good .thousand);
-          }
-      go false w =
-          let q = refused-same (rw (w, checkBoard) at e) in
-          rw (← (q .0), ← (q .1))
-          (record {
-            low = pos-of-ne-zero (eqb-false _ _ w);
-            high = low-header;
+            low = low;
+            high = rw (← broken) low-header;
             rounds = 0;
             few = omega arith;
             stands = λ m z. absurd (omega arith);
             within = omega arith;
             most = omega arith;
-          })
+          }
+      go (in-record m j l q before o broken low) =
+          named m number k (passed-of hash s m j (rw q at before)) (of-open hash s m j (rw q at o)) low (rw (← broken) (low-record (header s) (outBefore s m) m j)) (omega arith)
+      go (in-sheet m q before o broken low) =
+          named m number k (passed-of hash s m (header s .K) (rw q at before)) (of-open hash s m (header s .K) (rw q at o)) low
+          (rw (← broken) (low-sheet (header s) m (dueAt s m))) (omega arith)
+      go (at-end m q before o closed remain twelve) =
+          named m number k (passed-fewer hash s (passed-of hash s (suc m) 0 (rw (q, next-number hash s m) at before))) (of-open hash s m (header s .K) o) (omega arith) (omega arith) (omega arith)
 
 -- ---- jobs
 written-not-refused : {l rounds winner number w : ℕ} {order : List ℕ} → boardWritten l rounds order winner ≡ jobRefused number w → ⊥

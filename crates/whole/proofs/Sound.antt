@@ -2,10 +2,11 @@
 pub mod Tally
 pub mod Accepted
 use Prim.Native.Nat.{ℕ, zero, suc, _+_, _-_, _≤_, _<_}
-use mathlib.Core.Path.{_≡_, refl, sym, ap, _∙_}
+use mathlib.Core.Path.{_≡_, refl, sym, ap, subst, _∙_}
 use mathlib.Core.Bool.{Bool, true, false, cond}
 use mathlib.Core.List.{List, [], _∷_, _++_}
 use mathlib.Core.Logic.{⊎-elim}
+use native.Mathlib.Nat.{eq-or-lt-of-le}
 use native.Mathlib.Numerals.{add-one}
 use native.Mathlib.Omega.{arith}
 use lib.Dec.{eqb}
@@ -18,8 +19,11 @@ use Rattle.whole.proofs.Lists.{votes-sum, standing-all, first-standing,
 use Rattle.numbers.proofs.Tests.{or-false-left}
 use Rattle.numbers.proofs.Sums.{sum-same, sum-constant}
 use Rattle.whole.specs.ThirdDemand.{IsPlain, sheetsOn}
-use Rattle.rules.specs.Check.{checkBoard, accepted, Header, header, outField, countField, counts, due, checkFrom}
-use Rattle.whole.proofs.Sound.Accepted.{Marked, refused-not-accepted, GoodHeader, GoodSheet, Last, Goes-on, round-accepted, firstB, firstY, rounds-after, board-accepted}
+use Rattle.whole.specs.Rules.{SheetRules}
+use Rattle.rules.specs.Check.{checkBoard, accepted, Header, header, outField, countField, counts, due}
+use Rattle.whole.specs.SecondDemand.{standingAt, outBefore, closesAt, EveryRuleHolds}
+use Rattle.whole.proofs.SecondDemand.{second-demand}
+use Rattle.whole.proofs.Sound.Accepted.{Marked, round-marked, GoodHeader, header-good, firstB, firstY}
 use Rattle.whole.proofs.Sound.Tally.{counted}
 use Rattle.rules.specs.Count.{Standing, start, next, leaves, closes, table, firstIn, votesFor, countsOf, ended, countFrom, plainCount}
 use Rattle.jobs.specs.Job.{standing}
@@ -81,16 +85,19 @@ module _ (hash : List ℕ → List ℕ) (s : List ℕ) (rankings : ℕ → List 
         earlier = extend Sheeted m (r .earlier) sheet;
       }
 
-  module _ (rounds : ℕ) (order : List ℕ) (winner : ℕ) (good : GoodHeader hash s h) (o : Opens s rankings rounds) where
+  module _ (rounds : ℕ) (order : List ℕ) (winner : ℕ) (w : EveryRuleHolds hash s rounds order winner) (o : Opens s rankings rounds) where
+    abbrev good : GoodHeader hash s h
+    good = header-good hash s (w .head)
+
     -- the sheet's counts are the plain count's
-    count-right : (m due : ℕ) (st : Standing) → Reached m st → m < rounds → GoodSheet hash s h m due → (i : ℕ) → i < h .n →
+    count-right : (m due : ℕ) (st : Standing) → Reached m st → m < rounds → SheetRules s h m due → (i : ℕ) → i < h .n →
         countField s h m i ≡ votesFor (h .n) (st .gone) votes (suc i)
     count-right m due st r b sheet i l =
         counted (h .group) (good .orders) (good .generators)
         _ _ (λ k. cond (eqb (firstIn (h .n) (st .gone) (rankings k)) (suc i)) 1 0) _ _
         (λ k kl. opening k kl)
         (λ k kl. one-vote (eqb (firstIn (h .n) (st .gone) (rankings k)) (suc i)))
-        (sheet .small i l) (sheet .tally-b i l) (sheet .tally-y i l)
+        (sheet .counted i l) (sheet .tally-b i l) (sheet .tally-y i l)
         ∙ sym (votes-table (h .n) (st .gone) (h .K) rankings (suc i))
       where
         opening : (k : ℕ) → k < h .K →
@@ -99,11 +106,11 @@ module _ (hash : List ℕ → List ℕ) (s : List ℕ) (rankings : ℕ → List 
             let listed = ranked-processes (h .n) (rankings k) (o .full k kl) in
             rw (r .lists k, first-standing (h .n) (st .gone) (rankings k) listed, add-one) at (o .opens m k b kl .pairs 0 i (omega (arith, r .early)) l)
 
-    counts-right : (m due : ℕ) (st : Standing) → Reached m st → m < rounds → GoodSheet hash s h m due → countsAt m ≡ countsOf (h .n) votes (st .gone)
+    counts-right : (m due : ℕ) (st : Standing) → Reached m st → m < rounds → SheetRules s h m due → countsAt m ≡ countsOf (h .n) votes (st .gone)
     unfolding counts countsOf
     counts-right m due st r b sheet = table-same (h .n) _ _ (count-right m due st r b sheet)
 
-    sum-right : (m due : ℕ) (st : Standing) → Reached m st → m < rounds → GoodSheet hash s h m due → sumBelow (h .n) (countField s h m) ≡ h .K
+    sum-right : (m due : ℕ) (st : Standing) → Reached m st → m < rounds → SheetRules s h m due → sumBelow (h .n) (countField s h m) ≡ h .K
     sum-right m due st r b sheet = sum-same (h .n) _ _ (count-right m due st r b sheet) ∙ votes-sum (h .n) (h .K) (st .gone) rankings (o .full) (fewer m st r)
 
     all-marked : (m : ℕ) (st : Standing) → Reached m st → Sheeted m → sheetsOn s (suc m) ≡ suc m
@@ -114,46 +121,51 @@ module _ (hash : List ℕ → List ℕ) (s : List ℕ) (rankings : ℕ → List 
     unfolding table
     all-counts m st r = ap (λ t. t ++ (countsAt m ∷ [])) (sym (r .sheets))
 
-    closing : (m : ℕ) (st : Standing) → Reached m st → countsAt m ≡ countsOf (h .n) votes (st .gone) → Sheeted m → Last hash s h st m rounds order winner →
-        IsPlain s rounds order winner (ended (h .n) st (countsOf (h .n) votes (st .gone)))
-    closing m st r e sheet l =
-        let now : rounds ≡ suc m = omega (arith, l .rounds-are) in
+    -- the round that closes the board
+    closing : (m : ℕ) → m ≡ w .last → Reached m (standingAt s m) → countsAt m ≡ countsOf (h .n) votes (standingAt s m .gone) → Sheeted m →
+        IsPlain s rounds order winner (ended (h .n) (standingAt s m) (countsOf (h .n) votes (standingAt s m .gone)))
+    closing m last r e sheet =
+        let now : rounds ≡ suc m = omega (arith, w .rounds-are) in
         let before : rounds - 1 ≡ m = omega arith in
         record {
-          same-rounds = cc (l .rounds-are, sheets-counted m st r);
-          same-order = l .order-is;
-          same-winner = rw (← e) (l .winner-is);
-          same-sheets = rw now (all-marked m st r sheet ∙ sym (cc (sheets-counted m st r, add-one m)));
-          same-counts = rw (now, ← e) (all-counts m st r);
+          same-rounds = cc (now, sheets-counted m (standingAt s m) r, add-one m);
+          same-order = rw last (w .order-is);
+          same-winner = rw (← e, last) (w .winner-is);
+          same-sheets = rw now (all-marked m (standingAt s m) r sheet ∙ sym (cc (sheets-counted m (standingAt s m) r, add-one m)));
+          same-counts = rw (now, ← e) (all-counts m (standingAt s m) r);
           same-outs = rw before (sym (r .outs));
-          whole = rw now (l .ends);
+          whole = w .ends;
           sums = λ m′ b. extend Sheeted m (r .earlier) sheet m′ (rw now at b) .summed;
         }
 
     -- from round m on
-    in-step : (fuel : ℕ) (st : Standing) (m a : ℕ) → Reached m st → checkFrom hash s h fuel st m a ≡ accepted rounds order winner →
-        IsPlain s rounds order winner (countFrom (h .n) votes fuel st)
-    unfolding checkFrom countFrom
-    in-step zero st m a r e = absurd (refused-not-accepted e)
-    in-step (suc fuel) st m a r e =
-        let w = round-accepted hash s h st m a _ rounds order winner e in
-        let past = rounds-after hash s h (suc fuel) st m a rounds order winner e in
-        let same = counts-right m _ st r past (w .0) in
-        let sheet : Sheeted m = record { summed = sum-right m _ st r past (w .0); marked = w .1 } in
+    in-step : (fuel m : ℕ) → fuel + m ≡ h .n → m ≤ w .last → Reached m (standingAt s m) → IsPlain s rounds order winner (countFrom (h .n) votes fuel (standingAt s m))
+    unfolding countFrom standingAt
+    in-step zero m f l r = absurd (omega (arith, r .early))
+    in-step (suc fuel) m f l r =
+        let past : m < rounds = omega (arith, w .rounds-are) in
+        let good-sheet = w .sheets m past in
+        let same = counts-right m _ (standingAt s m) r past good-sheet in
+        let sheet : Sheeted m =
+        record {
+          summed = sum-right m _ (standingAt s m) r past good-sheet;
+          marked = round-marked hash s h (outBefore s m) m _ (λ k. w .records m k past) good-sheet;
+        } in
         ⊎-elim
-        (λ (l : Last hash s h st m rounds order winner).
-        let c : closes (h .n) st (countsOf (h .n) votes (st .gone)) (length votes) ≡ true = rw (← same, length-table) (l .closed) in
-        rw c (closing m st r same sheet l))
-        (λ (g : Goes-on hash s h st m (checkFrom hash s h fuel (next (h .n) st (countsAt m)) (suc m) (leaves (h .n) st (countsAt m))) (accepted rounds order winner)).
-        let c : closes (h .n) st (countsOf (h .n) votes (st .gone)) (length votes) ≡ false = rw (← same, length-table) (g .open-still) in
+        (λ (last : m ≡ w .last).
+        let c : closes (h .n) (standingAt s m) (countsOf (h .n) votes (standingAt s m .gone)) (length votes) ≡ true =
+        rw (← same, length-table) (subst (λ (m : ℕ). closesAt s m ≡ true) (sym last) (w .closed)) in
+        rw c (closing m last r same sheet))
+        (λ (b : m < w .last).
+        let going = w .not-before m b in
+        let c : closes (h .n) (standingAt s m) (countsOf (h .n) votes (standingAt s m .gone)) (length votes) ≡ false = rw (← same, length-table) going in
         rw (c, ← same)
-        (in-step fuel (next (h .n) st (countsAt m)) (suc m) (leaves (h .n) st (countsAt m))
-        (goes-on m st r (g .open-still) (rw (g .open-still) at (w .0 .out-due)) sheet) (g .then)))
-        (w .2)
+        (in-step fuel (suc m) (omega arith) b (goes-on m (standingAt s m) r going (rw going at (good-sheet .out-due)) sheet)))
+        (eq-or-lt-of-le l)
 
 pub sound : (hash : List ℕ → List ℕ) (s : List ℕ) (rounds : ℕ) (order : List ℕ) (winner : ℕ) (rankings : ℕ → List ℕ) →
     checkBoard hash s ≡ accepted rounds order winner → Opens s rankings rounds → IsPlain s rounds order winner (plainCount (header s .n) (table (header s .K) rankings))
-unfolding plainCount
+unfolding plainCount standingAt
 sound hash s rounds order winner rankings e o =
-    let b = board-accepted hash s rounds order winner e in
-    in-step hash s rankings rounds order winner (b .0) o (header s .n) start 0 0 (at-start hash s rankings (b .0 .two)) (b .1)
+    let w = second-demand hash .accepted-iff s rounds order winner .0 e in
+    in-step hash s rankings rounds order winner w o (header s .n) 0 (omega arith) (omega arith) (at-start hash s rankings (header-good hash s (w .head) .two))

@@ -1,4 +1,6 @@
--- What is claimed of whole boards: the third demand, what the refusals name, and the starred cases.
+-- What is claimed of whole boards: the second and the third demand, what the refusals name, and the starred cases.
+pub mod Rules
+pub mod SecondDemand
 pub mod ThirdDemand
 pub mod Refusals
 pub mod Worked

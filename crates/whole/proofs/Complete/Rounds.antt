@@ -6,7 +6,6 @@ use mathlib.Core.Path.{_≡_, refl, sym, subst, subst⁻¹, _∙_, ap}
 use mathlib.Core.Bool.{Bool, true, false, cond}
 use mathlib.Core.List.{List, [], _∷_, _++_}
 use mathlib.Core.Logic.{⊎-elim}
-use mathlib.Core.Option.{none}
 use lib.Dec.{eqb}
 use lib.ListN.{length, getD, length-append}
 use borrow.Author.Tests.{eq-eqb, eqb-false}
@@ -15,10 +14,11 @@ use Rattle.group.specs.Elements.{Parameters}
 use Rattle.rules.specs.Claims.{matrixAt}
 use Rattle.rules.specs.Records.{recordLength, sheetLength, roundAt, recordAt}
 use Rattle.rules.specs.Count.{table, isRanking, Standing, leaves, closes, next, ended, countsOf, countFrom}
-use Rattle.rules.specs.Check.{Verdict, accepted, Header, header, recordFault, faultBelow, outField, counts, sheetFault, ending, roundVerdict, checkFrom, matrix}
+use Rattle.rules.specs.Check.{Verdict, accepted, Header, header, recordFault, outField, counts, sheetFault, ending, roundVerdict, checkFrom, matrix}
 use Rattle.jobs.specs.Job.{Job, groupOf, headerOf, rankingOf, secret, standing, plainResult}
 use Rattle.jobs.specs.Board.{jobMatrix, recordBytes, sheetBytes, roundsFrom}
 use Rattle.rules.specs.Openings.{OpensTo, listAt}
+use Rattle.whole.proofs.Verdicts.{round-read}
 use Rattle.whole.proofs.Complete.FineJob.{Fine}
 use Rattle.whole.proofs.Complete.Written.{secret-at}
 use Rattle.numbers.proofs.Tests.{by-cases, or-false-left}
@@ -33,12 +33,6 @@ use Rattle.whole.proofs.Complete.ShiftRecord.{shift-length, shift-matri
 use Rattle.whole.proofs.Complete.SheetRecord.{sheet-length, read-out, read-counts, sheet-fault}
 use Rattle.whole.proofs.Complete.Places.{Stands, stands-left, stands-right, stands-block}
 use Rattle.numbers.proofs.Blocks.{length-blocks}
-
--- no record has a fault
-no-fault : (K : ℕ) (f : ℕ → ℕ) → ((k : ℕ) → k < K → f k ≡ 0) → faultBelow K f ≡ none
-unfolding faultBelow
-no-fault zero f e = refl
-no-fault (suc K) f e = rw (no-fault K f (λ k l. e k (omega arith)), e K (omega arith))
 
 -- a process still in stands once on what is left of a ranking
 in-once : (n : ℕ) (gone r : List ℕ) (c : ℕ) → isRanking n r ≡ true → In gone n c → times c (standing gone r) ≡ 1
@@ -166,9 +160,7 @@ module _ (hash : List ℕ → List ℕ) (job : Job) where
             (cond closing 0 leaving) refl
 
         round-is : (later : Verdict) → roundVerdict hash s h st m a later ≡ cond closing (ending s h st m) later
-        unfolding roundVerdict
-        round-is later = rw (no-fault (job .K) (recordFault hash s h a m) (λ k l. round-records k l .0), roundVerdict)
-            (rw (round-counts, sheet-good))
+        round-is later = round-read hash s h st m a later (λ k l. round-records k l .0) (rw round-counts sheet-good) ∙ rw round-counts
 
         -- its matrices open
         round-opens : (k : ℕ) → k < job .K → OpensTo g (job .n - m) (job .n) (matrix s h m k) (listAt s (rankingOf job) m k)
