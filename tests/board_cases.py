@@ -1,5 +1,5 @@
 """Boards for the test program `cases`, filed under what they cover (covered.py).  Damaged and
-dishonest records are made by the reference's craft.py and mutate.py."""
+dishonest records are made by the reference's craft.py and faults."""
 import random
 import re
 

@@ -113,7 +113,7 @@ class Cases:
 
 
 class Pool:
-    """Keeps what a function of mutate.py makes."""
+    """Keeps what a function of the reference's faults makes."""
 
     def __init__(self, make, *args):
         self.items = []

@@ -13,8 +13,9 @@ import types
 sys.dont_write_bytecode = True
 HERE = os.path.dirname(os.path.abspath(__file__))
 CRATE = os.path.join(HERE, '..', 'crates', 'cases')
-with open(os.path.join(HERE, 'reference', 'boardref.py')) as f:
-    SOURCE = f.read()
+# the modules of the reference, each after those that it imports
+MODULES = ('board.sizes', 'board.group', 'board.proofs', 'board.count', 'board.plain_count',
+           'board.reading', 'board.check', 'board.write', 'boardref')
 
 MUTANTS = [
     ('element: no order test', "return 1 <= x <= p - 1 and pow(x, q, p) == 1",
@@ -165,10 +166,19 @@ def checked(claim, branch, lines, rows):
     return statements[:max(2, len(branch) - rows * n)]
 
 
-def load(source):
-    module = types.ModuleType('mutant')
-    module.checked = checked
-    exec(compile(source, 'mutant', 'exec'), module.__dict__)
+def text_of(name):
+    with open(os.path.join(HERE, 'reference', *name.split('.')) + '.py') as f:
+        return f.read()
+
+
+def load(texts):
+    """The reference as these texts of its modules make it, boardref the last."""
+    for name, text in texts.items():
+        module = types.ModuleType(name)
+        module.__package__ = name.rpartition('.')[0]
+        module.checked = checked
+        sys.modules[name] = module                    # the modules after it import this one
+        exec(compile(text, name, 'exec'), module.__dict__)
     return module
 
 
@@ -180,9 +190,8 @@ def pieces(data):
         at += 4 + length
 
 
-def stored():
+def stored(reference):
     """(name, board, answer) of each stored board, the smallest first."""
-    reference = load(SOURCE)
     with open(os.path.join(CRATE, 'stdin'), 'rb') as f:
         parts = list(pieces(f.read()))
     boards = [(parts[i].decode(), parts[i + 1]) for i in range(0, len(parts), 2)]
@@ -198,11 +207,13 @@ def answer(mutant, board):
 
 
 def main():
-    boards = stored()
+    texts = {name: text_of(name) for name in MODULES}
+    boards = stored(load(texts))
     survivors = []
     for name, old, new in MUTANTS:
-        assert SOURCE.count(old) == 1, (name, SOURCE.count(old))
-        mutant = load(SOURCE.replace(old, new))
+        found = sum(text.count(old) for text in texts.values())
+        assert found == 1, (name, found)
+        mutant = load({module: text.replace(old, new) for module, text in texts.items()})
         caught = next((case for case, board, right in boards if answer(mutant, board) != right), None)
         print('%-45s %s' % (name, caught or 'SURVIVES'), flush=True)
         if caught is None:

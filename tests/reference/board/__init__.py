@@ -1,0 +1,1 @@
+"""The rules of 01, one subject a module.  boardref.py, beside this folder, is the front."""

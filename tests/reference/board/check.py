@@ -1,0 +1,159 @@
+"""check.py - the checker: a board read record by record."""
+from .count import after_out, closes, first_standing, lowest_due, winner_due
+from .group import (Group, g0_holds, g1_holds, group_holds, make_g1, pair_of, product_of,
+                    sizes_hold)
+from .proofs import entry_claim, line_claim, proof_holds, shift_claim
+from .reading import Reading, Refused
+from .sizes import HD_LENGTH, ba_length, rows_of_round, rt_length, sh_length
+
+
+def read_header(reading):
+    reading.open(b'HD', HD_LENGTH)
+    n = reading.number(1)
+    K = reading.number(2)
+    p = reading.number(4)
+    q = reading.number(4)
+    g0 = reading.number(4)
+    counter = reading.number(1)
+    g1 = reading.number(4)
+    label = reading.take(32)
+    # "HD: n or K out of range | 3"
+    if not sizes_hold(n, K):
+        reading.refuse(3)
+    # "HD: a rule on p and q broken | 4"
+    if not group_holds(n, K, p, q):
+        reading.refuse(4)
+    # "HD: a rule on g0 or g1 broken | 5"
+    if not g0_holds(p, q, g0):
+        reading.refuse(5)
+    if g1 != make_g1(p, q, g0, counter, label) or not g1_holds(g0, g1):
+        reading.refuse(5)
+    reading.close()
+    return n, K, Group(p, q, g0, g1, label)
+
+
+def read_matrix(reading, group, rows, n):
+    """"n^2 pairs (b 4, Y 4) by rows" / "R x n pairs" """
+    matrix = []
+    for _ in range(rows):
+        row = []
+        for _ in range(n):
+            b = reading.element(group)
+            y = reading.element(group)
+            row.append((b, y))
+        matrix.append(row)
+    return matrix
+
+
+def read_proof(reading, group, branches, statements):
+    """"A proof is, per branch, e 4, then per statement t1, t2, r, 4 each." """
+    proof = []
+    for _ in range(branches):
+        e = reading.exponent(group)
+        lines = []
+        for _ in range(statements):
+            t1 = reading.element(group)
+            t2 = reading.element(group)
+            r = reading.exponent(group)
+            lines.append((t1, t2, r))
+        proof.append((e, lines))
+    return proof
+
+
+def read_ballot(reading, group, n, k):
+    """"BA | number 2; n^2 pairs (b 4, Y 4) by rows; n^2 entry, n row, n column proofs" """
+    reading.open(b'BA', ba_length(n))
+    # "BA, SH, RT: number or round not the one due | 6"
+    if reading.number(2) != k:
+        reading.refuse(6)
+    # "same, fields left to right: ... | 7": the whole record is walked before any proof
+    matrix = read_matrix(reading, group, n, n)
+    entry_proofs = [[read_proof(reading, group, 2, 1) for _ in range(n)] for _ in range(n)]
+    row_proofs = [read_proof(reading, group, 1, 1) for _ in range(n)]
+    column_proofs = [read_proof(reading, group, 1, 1) for _ in range(n)]
+    # "BA, SH: a proof fails | 8"
+    for i in range(n):
+        for j in range(n):
+            if not proof_holds(group, entry_claim(group, matrix[i][j]), entry_proofs[i][j]):
+                reading.refuse(8)
+    for i in range(n):
+        if not proof_holds(group, line_claim(group, matrix[i]), row_proofs[i]):
+            reading.refuse(8)
+    for j in range(n):
+        column = [matrix[i][j] for i in range(n)]
+        if not proof_holds(group, line_claim(group, column), column_proofs[j]):
+            reading.refuse(8)
+    reading.close()
+    return matrix
+
+
+def read_shift(reading, group, n, m, k, previous, a):
+    """"SH | number 2; R x n pairs; one shift proof" """
+    R = rows_of_round(n, m)
+    reading.open(b'SH', sh_length(n, R))
+    if reading.number(2) != k:
+        reading.refuse(6)
+    matrix = read_matrix(reading, group, R, n)
+    proof = read_proof(reading, group, R + 1, 2 + R * n)
+    if not proof_holds(group, shift_claim(group, previous, matrix, a), proof):
+        reading.refuse(8)
+    reading.close()
+    return matrix
+
+
+def read_sheet(reading, group, standing, matrices):
+    """"RT | round 1, out 1, then per process count 2, s 4".  Returns (next standing, None)
+    or (standing, winner)."""
+    n, K = standing.n, standing.K
+    reading.open(b'RT', rt_length(n))
+    if reading.number(1) != standing.m:
+        reading.refuse(6)
+    out = reading.number(1)             # no rule of the walk is about out; see 11
+    counts, sums = [], []
+    for _ in range(n):
+        count = reading.number(2)
+        # "RT, in that same walk: count > K | 9"
+        if count > K:
+            reading.refuse(9)
+        counts.append(count)
+        sums.append(reading.exponent(group))
+    # "RT: a tally equation fails | 10"
+    # "For column i of round m, over all K ballots' first rows: product of b = g0^s * g1^count,
+    #  product of Y = g1^s."
+    for i in range(n):
+        if product_of(group, [M[0][i] for M in matrices]) != pair_of(group, sums[i], counts[i]):
+            reading.refuse(10)
+    # "RT: out is not the one due | 11";  "A closing sheet has out = 0"
+    if closes(standing, counts):
+        if out != 0:
+            reading.refuse(11)
+        reading.close()
+        return standing, winner_due(standing, counts)
+    if out != lowest_due(standing, counts):
+        reading.refuse(11)
+    reading.close()
+    return after_out(standing, out), None
+
+
+def check(board):
+    try:
+        return check_or_raise(bytes(board))
+    except Refused as refused:
+        return ('refused', refused.number, refused.record)
+
+
+def check_or_raise(board):
+    reading = Reading(board)
+    n, K, group = read_header(reading)
+    standing = first_standing(n, K)
+    matrices = [read_ballot(reading, group, n, k) for k in range(1, K + 1)]
+    standing, winner = read_sheet(reading, group, standing, matrices)
+    while winner is None:
+        a = standing.outs[-1]
+        matrices = [read_shift(reading, group, n, standing.m, k, matrices[k - 1], a)
+                    for k in range(1, K + 1)]
+        standing, winner = read_sheet(reading, group, standing, matrices)
+    # "after the closing sheet: bytes remain | 12"; "(with 12, the number of records read)"
+    if reading.left() > 0:
+        reading.refuse(12)
+    return ('accepted', standing.m, list(standing.outs), winner)

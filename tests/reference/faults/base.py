@@ -1,0 +1,44 @@
+"""base.py - a sound board with its parts, to be damaged."""
+import boardref as ref
+import gen
+from boardref import be
+from craft import Craft, layout
+
+BIG = 2 ** 32 - 1
+
+
+class Base:
+    """A written board with its parts."""
+
+    def __init__(self, rng, name, n, lists, group):
+        self.name, self.n, self.K, self.lists = name, n, len(lists), lists
+        self.p, self.q, self.g0 = group
+        self.label, self.counter = gen.label_counter(rng, *group)
+        self.rounds, self.counts, self.outs, self.winner = ref.plain_count(n, lists)
+        draws = gen.make_draws(rng, self.q, ref.draws_needed(n, self.K, self.rounds))
+        flat = [x for r in lists for x in r]
+        answer = ref.write(n, self.K, self.p, self.q, self.g0, self.counter, self.label, flat,
+                           draws, 10 ** 9)
+        assert answer[0] == 'written'
+        self.board = answer[1]
+        self.accepted = ('accepted', self.rounds, self.outs, self.winner)
+        self.fields = layout(n, self.K, self.rounds)
+        self.starts = [f[3] for f in self.fields if f[2] == 'mark'] + [len(self.board)]
+        self.tiny = self.q < 1000
+
+    def value(self, field):
+        _, _, _, place, width, _ = field
+        return int.from_bytes(self.board[place:place + width], 'big')
+
+    def put(self, field, value):
+        _, _, _, place, width, _ = field
+        return self.board[:place] + be(value, width) + self.board[place + width:]
+
+    def record(self, i):
+        return self.board[self.starts[i]:self.starts[i + 1]]
+
+    def records(self):
+        return [self.record(i) for i in range(len(self.starts) - 1)]
+
+    def craft(self, seed):
+        return Craft(self.n, self.K, self.p, self.q, self.g0, self.counter, self.label, seed)

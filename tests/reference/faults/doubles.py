@@ -1,0 +1,92 @@
+"""doubles.py - two faults in one board: which is named?"""
+from boardref import be
+
+
+def change(base, pairs):
+    """The board with a value put into each field."""
+    board = bytearray(base.board)
+    for f, value in pairs:
+        board[f[3]:f[3] + f[4]] = be(value, f[4])
+    return bytes(board)
+
+
+def find(base, record, kind, detail=None):
+    return next(f for f in base.fields if f[0] == record and f[2] == kind
+                and (detail is None or f[5] == detail))
+
+
+def double_faults(out, base):
+    sheet_doubles(out, base)
+    for r in (1, base.K):
+        ballot_doubles(out, base, r)
+    record_doubles(out, base)
+
+
+def sheet_doubles(out, base):
+    """Both faults in the first sheet."""
+    K, q, n = base.K, base.q, base.n
+    rt = K + 1
+    c1, s1 = find(base, rt, 'count', 1), find(base, rt, 's', 1)
+    cn, sn = find(base, rt, 'count', n), find(base, rt, 's', n)
+    out_, round_ = find(base, rt, 'out'), find(base, rt, 'round')
+    mark = find(base, rt, 'mark')
+    wrong_out = 255
+    cases = [
+        ('count1 and s1', [(c1, K + 1), (s1, q)], 9),
+        ('s1 and last count', [(s1, q), (cn, K + 1)], 7),
+        ('last count and s1 is wrong but < q', [(cn, K + 1), (s1, (base.value(s1) + 1) % q)], 9),
+        ('last s and out', [(sn, q), (out_, wrong_out)], 7),
+        ('last count and out', [(cn, K + 1), (out_, wrong_out)], 9),
+        ('tally and out', [(s1, (base.value(s1) + 1) % q), (out_, wrong_out)], 10),
+        ('tally of last and out', [(sn, (base.value(sn) + 1) % q), (out_, wrong_out)], 10),
+        ('round and s', [(round_, 9), (s1, q)], 6),
+        ('round and count', [(round_, 9), (c1, K + 1)], 6),
+        ('round and out', [(round_, 0), (out_, wrong_out)], 6),
+        ('mark and round', [(mark, 0), (round_, 0)], 2),
+    ]
+    for what, pairs, number in cases:
+        out.add('double', change(base, pairs), ('refused', number, rt), base.name + ' ' + what)
+
+
+def ballot_doubles(out, base, r):
+    """In ballot r: number 6 before 7 before 8; a late bad field (7) before an early bad proof
+    (8)."""
+    K, q, name = base.K, base.q, base.name
+    mark, num, b = find(base, r, 'mark'), find(base, r, 'number'), find(base, r, 'b')
+    responses = [f for f in base.fields if f[0] == r and f[2] == 'r']
+    first_r, last_r = responses[0], responses[-1]
+    c1 = find(base, K + 1, 'count', 1)
+    bad = (base.value(first_r) + 1) % q
+
+    def add(pairs, number, what='', end=None):
+        out.add('double', change(base, pairs)[:end], ('refused', number, r), name + what)
+
+    add([(num, 0), (b, 0)], 6, ' 6 and 7')
+    add([(first_r, bad), (last_r, q)], 7,
+        ' bad first proof, bad field at the end of the record')
+    add([(b, 0), (first_r, bad)], 7)
+    add([(first_r, bad), (c1, K + 1)], 8, ' ballot before sheet')
+    add([(first_r, bad)], 8, ' ballot before a cut at the end', -1)
+    cut = base.starts[r + 1] - 1
+    add([(first_r, bad)], 1, ' bad proof in a record cut by one byte', cut)
+    add([(num, 0)], 1, '', cut)
+    add([(mark, 0)], 1, ' bad mark in a record cut by one byte', cut)
+    add([(mark, 0), (num, 0)], 2)
+
+
+def record_doubles(out, base):
+    """Faults of two records: the earlier record is named."""
+    K, q = base.K, base.q
+    rt = K + 1
+    if base.rounds > 1:
+        sh = K + 2
+        first_r = find(base, sh, 'r')
+        bad = (base.value(first_r) + 1) % q
+        out.add('double', change(base, [(find(base, rt, 'out'), 0), (first_r, bad)]),
+                ('refused', 11, rt), base.name)
+        out.add('double',
+                change(base, [(first_r, q), (find(base, 2 * K + 2, 'count', 1), K + 1)]),
+                ('refused', 7, sh), base.name)
+    last = base.rounds * (K + 1)
+    out.add('double', change(base, [(find(base, last, 'out'), 1)]) + b'\0',
+            ('refused', 11, last), base.name + ' closing out and a byte more')

@@ -1,0 +1,119 @@
+"""fields.py - a single field changed."""
+from .base import BIG
+
+
+def spread(items, most=3):
+    """first, middle, last"""
+    if len(items) <= most:
+        return items
+    return [items[0], items[len(items) // 2], items[-1]]
+
+
+def field_faults(out, rng, base, every_record=False, light=False):
+    """light: only the last field of each kind in a record, fewer values."""
+    K = base.K
+    by_record = {}
+    for f in base.fields:
+        by_record.setdefault(f[0], []).append(f)
+    chosen = []
+    groups = {}                                       # records by mark and round
+    for r, fields in by_record.items():
+        groups.setdefault((fields[0][1], (r - 1) // (K + 1)), []).append(r)
+    for records in groups.values():
+        chosen += records if every_record else sorted({records[0], records[-1]})
+    for r in sorted(chosen):
+        if r == 0:
+            continue
+        kinds = {}
+        for f in by_record[r]:
+            name = f[2]
+            if name in ('e', 't1', 't2', 'r'):
+                name += '/' + f[5][0]
+            kinds.setdefault(name, []).append(f)
+        for name, fields in kinds.items():
+            for f in fields[-1:] if light else spread(fields):
+                one_field(out, rng, base, r, f, light)
+
+
+def one_field(out, rng, base, r, f, light=False):
+    """Field f of record r, with each value of its kind that differs and fits."""
+    kind, mark, detail = f[2], f[1], f[5]
+    old = base.value(f)
+    note = '%s record %d %s field %s %s' % (base.name, r, mark, kind, detail)
+    for value, number, sure in VALUES[kind](rng, base, f, light):
+        if 0 <= value < 256 ** f[4] and value != old:
+            out.add('%s_%s_%s' % (base.name, mark, kind), base.put(f, value),
+                    ('refused', number, r), note + ' %d -> %d' % (old, value), sure)
+
+
+# ------------------------------------------------------------------ values of each kind
+#
+# Each yields (value, number of the refusal due, sure); sure as in Out.add.
+
+def marks(rng, base, f, light):
+    mark = f[1].encode()
+    others = (b'HD', b'BA', b'SH', b'RT', b'HF', b'ba', b'\0\0', mark[::-1], mark[:1] + b'\0',
+              b'\0' + mark[1:])
+    for other in others[2:5] if light else others:
+        if other != mark:
+            yield int.from_bytes(other, 'big'), 2, True
+
+
+def numbers(rng, base, f, light):
+    old = base.value(f)
+    for value in (0, old + 1, old - 1, old + 256, 255, 65535):
+        yield value, 6, True
+
+
+def elements(rng, base, f, light):
+    p, q, old = base.p, base.q, base.value(f)
+    for value in (0, p - old) if light else (0, p, old + p, p - old, BIG, 2 ** 31, p - 1):
+        yield value, 7, True
+    while True:                                       # some other number that is no element
+        value = rng.randrange(1, p)
+        if pow(value, q, p) != 1:
+            break
+    yield value, 7, True
+    sure = f[2] in ('t1', 't2') or not base.tiny
+    yield old * base.g0 % p, 8, sure                  # another element
+    if not light:
+        yield 1, 8, sure
+
+
+def exponents(rng, base, f, light):
+    q, old = base.q, base.value(f)
+    for value in (q, old + q) if light else (q, old + q, BIG, 2 ** 31):
+        yield value, 7, True
+    yield (old + 1) % q, 8, True
+    if not light:
+        yield (old - 1) % q, 8, True
+        yield (q - old) % q, 8, False
+
+
+def sums(rng, base, f, light):
+    q, old = base.q, base.value(f)
+    for value in (q, old + q, BIG, 2 ** 31):
+        yield value, 7, True
+    yield (old + 1) % q, 10, True
+    yield (old - 1) % q, 10, True
+    yield (q - old) % q, 10, False
+
+
+def counts(rng, base, f, light):
+    K, old = base.K, base.value(f)
+    for value in (K + 1, 65535, old + base.q, 256 * old + K + 1):
+        if value > K:
+            yield value, 9, True
+    for value in range(0, K + 1) if K <= 5 else (old + 1, old - 1, 0, K):
+        if 0 <= value <= K:
+            yield value, 10, True
+
+
+def outs(rng, base, f, light):
+    for value in list(range(0, base.n + 2)) + [128, 255]:
+        yield value, 11, True
+
+
+VALUES = {'mark': marks, 'number': numbers, 'round': numbers, 'b': elements, 'Y': elements,
+          't1': elements, 't2': elements, 'e': exponents, 'r': exponents, 's': sums,
+          'count': counts, 'out': outs}

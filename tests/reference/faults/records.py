@@ -1,0 +1,107 @@
+"""records.py - boards cut and extended; records out of order, or from elsewhere."""
+import boardref as ref
+from boardref import be
+from craft import Craft, permutation_matrix
+
+
+def cuts_and_tails(out, rng, base, every_byte=False):
+    board, starts = base.board, base.starts
+    lengths = set(range(len(board))) if every_byte else set()
+    for i, s in enumerate(starts):
+        for d in (-2, -1, 0, 1, 2, 3, 4):
+            if 0 <= s + d < len(board):
+                lengths.add(s + d)
+    for length in sorted(lengths):
+        record = max(i for i, s in enumerate(starts) if s <= length)
+        out.add(base.name + '_cut', board[:length], ('refused', 1, record),
+                'first %d bytes' % length)
+    read = len(starts) - 1
+    tails = [b'\0', b'R', b'RT', b'\xff' * 7, base.record(read - 1), base.record(1),
+             base.record(0), board, b'SH' + bytes(500),
+             bytes(max(0, ref.BOARDCHECK_LIMIT - len(board)))]
+    for tail in tails:
+        out.add(base.name + '_tail', board + tail, ('refused', 12, read),
+                '%d bytes after the closing sheet' % len(tail))
+    out.add(base.name + '_tail', board + bytes(max(0, ref.BOARDCHECK_LIMIT + 1 - len(board))),
+            ('refused', 12, read), 'too long by one')
+
+
+def answer_for(R, records, at):
+    """For records that first differ from the right ones, R, at number `at`: 1 if what is left is
+    shorter than the record due, else 2 if the mark differs, else 6 (numbers differ)."""
+    rest = b''.join(records[at:])
+    if len(rest) < len(R[at]):
+        return ('refused', 1, at)
+    if rest[:2] != R[at][:2]:
+        return ('refused', 2, at)
+    return ('refused', 6, at)
+
+
+def record_order(out, rng, base):
+    R = base.records()
+    fewer_or_more(out, base, R)
+    exchanged(out, base, R)
+    marks_exchanged(out, base, R)
+    other = [R[1], R[0]] + R[2:]
+    out.add(base.name + '_swap', b''.join(other), ('refused', 2, 0), 'BA before HD')
+
+
+def fewer_or_more(out, base, R):
+    for i in range(1, len(R)):
+        fewer = R[:i] + R[i + 1:]
+        if i < len(R) - 1:
+            # dropping the first SH of a round may bring up the next with number 2: 6; K = 1: 2
+            out.add(base.name + '_drop', b''.join(fewer), answer_for(R, fewer, i),
+                    'record %d left out' % i)
+        twice = R[:i + 1] + R[i:]
+        if i < len(R) - 1:
+            out.add(base.name + '_twice', b''.join(twice), answer_for(R, twice, i + 1),
+                    'record %d twice' % i)
+        else:
+            out.add(base.name + '_twice', b''.join(twice), ('refused', 12, len(R)),
+                    'record %d twice' % i)
+
+
+def exchanged(out, base, R):
+    K = base.K
+    for i in range(1, len(R)):
+        for j in {i + 1, i + K, i + K + 1, len(R) - 1}:
+            if i < j < len(R):
+                other = R[:]
+                other[i], other[j] = other[j], other[i]
+                known = answer_for(R, other, i)
+                if R[i][:4] == R[j][:4]:              # same mark and number, another round
+                    known = None
+                out.add(base.name + '_swap', b''.join(other), known,
+                        'records %d and %d exchanged' % (i, j))
+
+
+def marks_exchanged(out, base, R):
+    for i in range(1, len(R) - 1):
+        a, b = R[i], R[i + 1]
+        if a[:2] != b[:2]:
+            other = R[:i] + [b[:2] + a[2:], a[:2] + b[2:]] + R[i + 2:]
+            out.add(base.name + '_marks', b''.join(other), ('refused', 2, i),
+                    'marks of %d and %d exchanged' % (i, i + 1))
+
+
+def replays(out, rng, base):
+    """Whole ballots taken from elsewhere: their proofs hold, the tally does not."""
+    R = base.records()
+    K = base.K
+    if K > 1:
+        copy = R[:]
+        copy[2] = R[1][:2] + be(2, 2) + R[1][4:]
+        out.add(base.name + '_replay', b''.join(copy), ('refused', 10, K + 1),
+                'ballot 1 again as ballot 2', sure=not base.tiny)
+    crafted = base.craft(99)
+    fresh = crafted.ballot(1, permutation_matrix(base.n, base.lists[0]))
+    copy = R[:]
+    copy[1] = fresh
+    out.add(base.name + '_replay', b''.join(copy), ('refused', 10, K + 1),
+            'ballot 1 made anew', sure=not base.tiny)
+    other = Craft(base.n, K, base.p, base.q, base.g0, base.counter, base.label, 98)
+    other.group = other.group._replace(label=bytes(32))
+    copy[1] = other.ballot(1, permutation_matrix(base.n, base.lists[0]))
+    out.add(base.name + '_replay', b''.join(copy), ('refused', 8, 1),
+            'ballot 1 proved under another label', sure=not base.tiny)
