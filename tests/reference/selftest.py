@@ -18,7 +18,7 @@ from craft import Craft, layout, permutation_matrix, strike
 G = Group(23, 11, 2, 3, bytes(32))
 
 
-def hand_cases():
+def pairs_by_hand():
     # "With p = 23, q = 11, g0 = 2, g1 = 3"
     assert ref.is_element(23, 11, 2) and ref.is_element(23, 11, 3)
     assert ref.pair_of(G, 5, 1) == (4, 13)
@@ -28,6 +28,9 @@ def hand_cases():
     assert ref.pair_of(G, 1, 2) == (18, 3)                  # count 2, s 1
     assert ref.statement_holds(G, (9, 13), 3, 16, 12, 8)
     assert not ref.statement_holds(G, (9, 13), 3, 16, 12, 7)
+
+
+def count_by_hand():
     # "Counts 8, 17, 16, 19 of 60: 1 goes out."
     s = ref.first_standing(4, 60)
     assert not ref.closes(s, [8, 17, 16, 19]) and ref.lowest_due(s, [8, 17, 16, 19]) == 1
@@ -42,58 +45,82 @@ def hand_cases():
     assert V == permutation_matrix(4, [2, 3])[:2] and len(V) == 2
     # "n = 2, one ballot each way: closes in round 1, winner 1."
     assert ref.plain_count(2, [[1, 2], [2, 1]]) == (1, [[1, 1]], [], 1)
+
+
+def headers_by_hand(rng, label, counter):
     # "Empty board: refusal 1, record 0."
     assert ref.check(b'') == ('refused', 1, 0)
     # "n = 8 passes, 9 is 3. K = 1,000 passes, 1,001 is 3; K = 0 is 3. q = K is 4."
     p, q, g0 = gen.HOUSE
-    label, counter = gen.label_counter(random.Random(1), p, q, g0)
     g1 = ref.make_g1(p, q, g0, counter, label)
 
-    def head(n, K, p=p, q=q):
+    def head(n, K):
         return ref.check(ref.header_bytes(n, K, p, q, g0, counter, g1, label))
     assert head(8, 1) == ('refused', 1, 1) and head(9, 1) == ('refused', 3, 0)
     assert head(2, 1000) == ('refused', 1, 1) and head(2, 1001) == ('refused', 3, 0)
     assert head(2, 0) == ('refused', 3, 0)
-    r = random.Random(2)
-    g = gen.elements_g0(r, 23, 11)
-    lab, c = gen.label_counter(r, 23, 11, g)
+    g = gen.elements_g0(rng, 23, 11)
+    lab, c = gen.label_counter(rng, 23, 11, g)
     h = ref.make_g1(23, 11, g, c, lab)
     assert ref.check(ref.header_bytes(2, 11, 23, 11, g, c, h, lab)) == ('refused', 4, 0)
     assert ref.check(ref.header_bytes(2, 10, 23, 11, g, c, h, lab)) == ('refused', 1, 1)
+
+
+def jobs_by_hand(rng, label, counter):
+    """Returns the board of three processes and three ballots."""
     # "n = 2, K = 2: 526 bytes."  "2,534 bytes, 222 draws."
     assert ref.board_length(2, 2, 1) == 526
     assert ref.board_length(3, 3, 2) == 2534 and ref.draws_needed(3, 3, 2) == 222
-    draws = gen.make_draws(r, q, 222)
-    flat = [1, 2, 3, 2, 3, 1, 3, 1, 2]
-    job = [3, 3, p, q, g0, counter, label, flat]
-    answer = ref.write(*job, draws, 2534)
+    q = gen.HOUSE[1]
+    job = gen.Job(3, 3, *gen.HOUSE, counter, label, [1, 2, 3, 2, 3, 1, 3, 1, 2],
+                  gen.make_draws(rng, q, 222), 2534)
+    answer = ref.write(*job)
     assert answer[0] == 'written' and len(answer[1]) == 2534 and answer[2:] == (2, [3], 1)
-    assert ref.write(*job, draws[:221], 2534) == ('refused', 14, 0)
-    assert ref.write(*job, draws, 2533) == ('refused', 15, 0)
+    assert ref.write(*job._replace(draws=job.draws[:221])) == ('refused', 14, 0)
+    assert ref.write(*job._replace(out_len=2533)) == ('refused', 15, 0)
+    # one ranking more each way: 526 bytes
+    two = ref.write(2, 2, *gen.HOUSE, counter, label, [1, 2, 2, 1],
+                    gen.make_draws(rng, q, 2 * ref.ba_draws(2)), 526)
+    assert two[0] == 'written' and len(two[1]) == 526 and two[2:] == (1, [], 1)
+    return answer[1]
+
+
+def boardcheck_by_hand(board):
+    """The text for the board of jobs_by_hand, the program's too, and the limit of length."""
     text = 'accepted\nrounds 2\nout 3\nwinner 1\n'
-    assert ref.boardcheck(answer[1]) == text
+    assert ref.boardcheck(board) == text
     program = [sys.executable, os.path.join(os.path.dirname(__file__), 'boardref.py')]
-    ran = subprocess.run(program, input=answer[1], capture_output=True)
+    ran = subprocess.run(program, input=board, capture_output=True)
     assert ran.stdout == text.encode()
     ran = subprocess.run(program, input=b'', capture_output=True)
     assert ran.stdout == b'refused 1 0\n'
     assert ref.boardcheck(bytes(65536)) == 'refused 2 0\n'
     assert ref.boardcheck(bytes(65537)) == 'too long\n'
-    # one ranking more each way: 526 bytes
-    two = ref.write(2, 2, p, q, g0, counter, label, [1, 2, 2, 1],
-                    gen.make_draws(r, q, 2 * ref.ba_draws(2)), 526)
-    assert two[0] == 'written' and len(two[1]) == 526 and two[2:] == (1, [], 1)
+    # board of 54 bytes cut, one byte more
+    assert ref.check(board[:53]) == ('refused', 1, 0)
+    assert ref.check(board[:54]) == ('refused', 1, 1)
+    assert ref.check(board + b'\0') == ('refused', 12, 9)
+
+
+def sizes_by_hand():
     # eight processes: one proof of eight branches, 58 statements in each
     X = [[(1, 1)] * 8 for _ in range(8)]
     claim = ref.shift_claim(G, X, X[:7], 3)
     assert len(claim) == 8 and all(len(b) == 58 for b in claim)
     # house group: no safe prime between it and 2^31
+    p, q, _ = gen.HOUSE
     assert ref.is_prime(p) and ref.is_prime(q) and p == 2 * q + 1
     assert not any(ref.is_prime(x) and ref.is_prime(x // 2) for x in range(p + 2, 2 ** 31, 2))
-    # board of 54 bytes cut, one byte more
-    assert ref.check(answer[1][:53]) == ('refused', 1, 0)
-    assert ref.check(answer[1][:54]) == ('refused', 1, 1)
-    assert ref.check(answer[1] + b'\0') == ('refused', 12, 9)
+
+
+def hand_cases():
+    pairs_by_hand()
+    count_by_hand()
+    label, counter = gen.label_counter(random.Random(1), *gen.HOUSE)
+    rng = random.Random(2)
+    headers_by_hand(rng, label, counter)
+    boardcheck_by_hand(jobs_by_hand(rng, label, counter))
+    sizes_by_hand()
 
 
 def second_count(n, rankings):
@@ -128,78 +155,99 @@ def sheets_of(board, n, K, rounds):
     return outs, counts
 
 
+def small_group(rng, least_q):
+    """(p, q, g0) with q >= least_q and a small p."""
+    while True:
+        if rng.random() < 0.8:
+            p, q = rng.choice([f for f in gen.FIXED if f[0] < 3000])
+        else:
+            p, q = gen.random_pq(rng, rng.randrange(3, 12), 14)
+        if q >= least_q:
+            return p, q, gen.elements_g0(rng, p, q)
+
+
+def random_job(rng, i):
+    """A job in a small group and its plain count; n is large in one of 60."""
+    n = rng.choice((2, 2, 3, 3, 3, 4, 4, 5)) if i % 60 else rng.randrange(6, 9)
+    K = rng.randrange(1, 9 if n < 4 else 7 if n < 6 else 4)
+    p, q, g0 = small_group(rng, max(n, K) + 1)
+    label, counter = gen.label_counter(rng, p, q, g0)
+    lists = gen.rankings_of(rng, n, K, rng.choice(gen.STYLES))
+    plain = ref.plain_count(n, lists)
+    assert plain == second_count(n, lists)
+    rounds, counts = plain[:2]
+    assert all(sum(c) == K for c in counts)
+    draws = gen.make_draws(rng, q, ref.draws_needed(n, K, rounds),
+                           rng.choice(('random', 'random', 'ones', 'tops', 'edges')))
+    flat = [x for r in lists for x in r]
+    return gen.Job(n, K, p, q, g0, counter, label, flat, draws,
+                   ref.board_length(n, K, rounds)), plain
+
+
+def written_as_counted(job, plain):
+    """The writer's answer, once the checker and the sheets agree with the plain count."""
+    rounds, counts, outs, winner = plain
+    answer = ref.write(*job)
+    assert answer[0] == 'written' and answer[2:] == (rounds, outs, winner)
+    assert ref.check(answer[1]) == ('accepted', rounds, outs, winner)
+    assert sheets_of(answer[1], job.n, job.K, rounds) == (outs + [0], counts)
+    return answer
+
+
+def job_varied(rng, job, answer):
+    """Spare draws and room change nothing; a job or a board with one fault is refused."""
+    def written(**changes):
+        return ref.write(*job._replace(**changes))
+    draws, length, flat = job.draws, job.out_len, job.rankings
+    _, board, rounds, _, _ = answer
+    assert written(draws=draws + [0, 2 ** 32 - 1], out_len=length + 5) == answer
+    assert written(draws=draws[:-1]) == ('refused', 14, 0)
+    assert written(out_len=length - 1) == ('refused', 15, 0)
+    place = rng.randrange(len(draws))
+    for bad in (0, job.q):
+        assert written(draws=draws[:place] + [bad] + draws[place + 1:]) == ('refused', 14, 0)
+    place = rng.randrange(len(flat))
+    worse = flat[:place] + [rng.choice((0, job.n + 1))] + flat[place + 1:]
+    assert written(rankings=worse) == ('refused', 13, place // job.n + 1)
+    assert ref.check(board[:-1]) == ('refused', 1, rounds * (job.K + 1))
+    assert ref.check(board + b'\0') == ('refused', 12, rounds * (job.K + 1) + 1)
+
+
+def answer_after_flip(rng, board):
+    """The refusal number, or 'accepted', once one bit of the board is flipped."""
+    place = rng.randrange(len(board))
+    broken = board[:place] + bytes([board[place] ^ (1 << rng.randrange(8))]) + board[place + 1:]
+    verdict = ref.check(broken)
+    return verdict[1] if verdict[0] == 'refused' else verdict[0]
+
+
 def random_jobs(count, seed):
     rng = random.Random(seed)
     rounds_seen, refusals = {}, {}
     for i in range(count):
-        n = rng.choice((2, 2, 3, 3, 3, 4, 4, 5)) if i % 60 else rng.randrange(6, 9)
-        K = rng.randrange(1, 9 if n < 4 else 7 if n < 6 else 4)
-        while True:
-            if rng.random() < 0.8:
-                p, q = rng.choice([f for f in gen.FIXED if f[0] < 3000])
-            else:
-                p, q = gen.random_pq(rng, rng.randrange(3, 12), 14)
-            if q > n and q > K:
-                break
-        g0 = gen.elements_g0(rng, p, q)
-        label, counter = gen.label_counter(rng, p, q, g0)
-        lists = gen.rankings_of(rng, n, K, rng.choice(gen.STYLES))
-        plain = ref.plain_count(n, lists)
-        assert plain == second_count(n, lists)
-        rounds, counts, outs, winner = plain
-        assert all(sum(c) == K for c in counts)
-        needed, length = ref.draws_needed(n, K, rounds), ref.board_length(n, K, rounds)
-        draws = gen.make_draws(rng, q, needed, rng.choice(('random', 'random', 'ones', 'tops',
-                                                           'edges')))
-        flat = [x for r in lists for x in r]
-        job = [n, K, p, q, g0, counter, label, flat]
-        answer = ref.write(*job, draws, length)
-        assert answer[0] == 'written' and answer[2:] == (rounds, outs, winner)
-        board = answer[1]
-        assert ref.check(board) == ('accepted', rounds, outs, winner)
-        assert sheets_of(board, n, K, rounds) == (outs + [0], counts)
-        rounds_seen[(n, rounds)] = rounds_seen.get((n, rounds), 0) + 1
+        job, plain = random_job(rng, i)
+        answer = written_as_counted(job, plain)
+        seen = (job.n, plain[0])
+        rounds_seen[seen] = rounds_seen.get(seen, 0) + 1
         if i % 10 == 0:
-            assert ref.write(*job, draws + [0, 2 ** 32 - 1], length + 5) == answer
-            assert ref.write(*job, draws[:-1], length) == ('refused', 14, 0)
-            assert ref.write(*job, draws, length - 1) == ('refused', 15, 0)
-            place = rng.randrange(needed)
-            for bad in (0, q):
-                assert ref.write(*job, draws[:place] + [bad] + draws[place + 1:],
-                                 length) == ('refused', 14, 0)
-            place = rng.randrange(len(flat))
-            worse = flat[:place] + [rng.choice((0, n + 1))] + flat[place + 1:]
-            assert ref.write(*job[:-1], worse, draws, length) == ('refused', 13, place // n + 1)
-            assert ref.check(board[:-1]) == ('refused', 1, rounds * (K + 1))
-            assert ref.check(board + b'\0') == ('refused', 12, rounds * (K + 1) + 1)
+            job_varied(rng, job, answer)
         # a byte changed anywhere never leaves the board accepted (t1, t2 and label are hashed,
         # all else is bound by an equation) except by luck in a tiny group
-        place = rng.randrange(len(board))
-        broken = board[:place] + bytes([board[place] ^ (1 << rng.randrange(8))]) + board[place + 1:]
-        verdict = ref.check(broken)
-        key = verdict[1] if verdict[0] == 'refused' else verdict[0]
+        key = answer_after_flip(rng, answer[1])
         refusals[key] = refusals.get(key, 0) + 1
     return rounds_seen, refusals
 
 
-def every_refusal():
-    """Each number once, simplest case, over the 3 x 3 board."""
-    rng = random.Random(5)
-    p, q, g0 = gen.HOUSE
-    label, counter = gen.label_counter(rng, p, q, g0)
-    flat = [1, 2, 3, 2, 3, 1, 3, 1, 2]
-    draws = gen.make_draws(rng, q, 222)
-    board = ref.write(3, 3, p, q, g0, counter, label, flat, draws, 2534)[1]
-    F = layout(3, 3, 2)
+def checker_refusals(board, fields, q):
+    def field(record, kind, last):
+        return [f for f in fields if f[0] == record and f[2] == kind][-1 if last else 0]
 
     def put(record, kind, value, last=False):
-        fields = [f for f in F if f[0] == record and f[2] == kind]
-        f = fields[-1 if last else 0]
+        f = field(record, kind, last)
         return ref.check(board[:f[3]] + be(value, f[4]) + board[f[3] + f[4]:])
 
     def old(record, kind, last=False):
-        fields = [f for f in F if f[0] == record and f[2] == kind]
-        f = fields[-1 if last else 0]
+        f = field(record, kind, last)
         return int.from_bytes(board[f[3]:f[3] + f[4]], 'big')
 
     hit = {
@@ -218,75 +266,98 @@ def every_refusal():
     }
     for number, (answer, record) in hit.items():
         assert answer == ('refused', number, record), (number, answer)
-    for number, answer in ((3, ref.write(9, 3, p, q, g0, counter, label, flat, draws, 2534)),
-                           (4, ref.write(3, 3, p, 3, g0, counter, label, flat, draws, 2534)),
-                           (5, ref.write(3, 3, p, q, 1, counter, label, flat, draws, 2534)),
-                           (13, ref.write(3, 3, p, q, g0, counter, label, flat[1:], draws, 2534)),
-                           (14, ref.write(3, 3, p, q, g0, counter, label, flat, [], 2534)),
-                           (15, ref.write(3, 3, p, q, g0, counter, label, flat, draws, 0))):
-        assert answer == ('refused', number, 0)
-    assert ref.write(3, 3, p, q, g0, counter, label, [1, 2, 3, 1, 2, 2, 3, 1, 2], draws,
-                     2534) == ('refused', 13, 2)
+
+
+def writer_refusals(job):
+    for number, changes in ((3, {'n': 9}), (4, {'q': 3}), (5, {'g0': 1}),
+                            (13, {'rankings': job.rankings[1:]}), (14, {'draws': []}),
+                            (15, {'out_len': 0})):
+        assert ref.write(*job._replace(**changes)) == ('refused', number, 0)
+    assert ref.write(*job._replace(rankings=[1, 2, 3, 1, 2, 2, 3, 1, 2])) == ('refused', 13, 2)
+
+
+def every_refusal():
+    """Each number once, simplest case, over the 3 x 3 board."""
+    job = gen.cycle_job(random.Random(5), *gen.HOUSE)
+    board = ref.write(*job)[1]
+    fields = layout(3, 3, 2)
+    checker_refusals(board, fields, job.q)
+    writer_refusals(job)
     # the layout table agrees with what the reader does: every 4-byte proof field set to 2^32-1
     # is refused with 7 at its record
-    for f in F:
+    for f in fields:
         if f[2] in ('b', 'Y', 't1', 't2', 'e', 'r', 's'):
             bad = board[:f[3]] + b'\xff' * 4 + board[f[3] + 4:]
             assert ref.check(bad) == ('refused', 7, f[0])
+
+
+LOG0 = {pow(2, w, 23): w for w in range(11)}
+LOG1 = {pow(3, w, 23): w for w in range(11)}
+
+
+def true_branches(claim):
+    """For each branch, whether log_g0 A = log_g1 B in all its statements (A, B)."""
+    return [all(LOG0[A] == LOG1[B] for A, B in branch) for branch in claim]
+
+
+def matrix_of(rng, V):
+    return [[ref.pair_of(G, rng.randrange(11), v % 11) for v in row] for row in V]
+
+
+def ballot_claims(rng):
+    for v in range(11):
+        for x in range(11):
+            assert true_branches(ref.entry_claim(G, ref.pair_of(G, x, v))) == [v == 0, v == 1]
+    for _ in range(300):
+        row = [rng.choice((0, 0, 1, 2, -1)) for _ in range(rng.randrange(2, 6))]
+        assert true_branches(ref.line_claim(G, matrix_of(rng, [row])[0])) == [sum(row) % 11 == 1]
+
+
+def random_next(rng, n, processes, a):
+    """A list one shorter than processes: without a, or wrong in one of several ways."""
+    size = len(processes)
+    way = rng.randrange(5)
+    if way <= 1:
+        new = [i for i in processes if i != a][:size - 1]
+    elif way == 2:
+        new = [i for i in processes if i != rng.choice(processes)][:size - 1]
+    elif way == 3:
+        new = [i for i in processes if i != a][:size - 1]
+        i, j = rng.randrange(len(new)), rng.randrange(len(new))
+        new[i], new[j] = new[j], new[i]
+    else:
+        new = [rng.randrange(1, n + 1) for _ in range(size - 1)]
+    while len(new) < size - 1:
+        new.append(rng.randrange(1, n + 1))
+    return new
+
+
+def shift_claim_once(rng):
+    """Whether the shift, made at random, was a right one."""
+    n = rng.randrange(2, 6)
+    size = rng.randrange(2, n + 1)                    # rows of the matrix before
+    processes = rng.sample(range(1, n + 1), size)
+    a = rng.choice(processes) if rng.random() < 0.8 else rng.randrange(1, n + 1)
+    V = permutation_matrix(n, processes)
+    new = random_next(rng, n, processes, a)
+    W = permutation_matrix(n, new)
+    if rng.random() < 0.1:                            # one entry off
+        W[rng.randrange(len(W))][rng.randrange(n)] += rng.choice((1, -1, 2))
+    got = true_branches(ref.shift_claim(G, matrix_of(rng, V), matrix_of(rng, W), a))
+    want = [False] * size
+    if a in processes:
+        l = processes.index(a)
+        want[l] = W == strike(V, l)
+    assert got == want, (processes, a, new, got, want)
+    return any(want)
 
 
 def claims_mean_what_they_say(seed):
     """In p = 23 every logarithm can be looked up: a statement (A, B) is true iff
     log_g0 A = log_g1 B.  Compare with the lists that the matrices stand for."""
     rng = random.Random(seed)
-    log0 = {pow(2, w, 23): w for w in range(11)}
-    log1 = {pow(3, w, 23): w for w in range(11)}
-
-    def true(statement):
-        return log0[statement[0]] == log1[statement[1]]
-
-    def some_branch(claim):
-        return [all(true(s) for s in branch) for branch in claim]
-
-    def matrix(V):
-        return [[ref.pair_of(G, rng.randrange(11), v % 11) for v in row] for row in V]
-
-    for v in range(11):
-        for x in range(11):
-            assert some_branch(ref.entry_claim(G, ref.pair_of(G, x, v))) == [v == 0, v == 1]
-    for _ in range(300):
-        row = [rng.choice((0, 0, 1, 2, -1)) for _ in range(rng.randrange(2, 6))]
-        assert some_branch(ref.line_claim(G, matrix([row])[0])) == [sum(row) % 11 == 1]
-    trues = 0
-    for _ in range(4000):
-        n = rng.randrange(2, 6)
-        size = rng.randrange(2, n + 1)                # rows of the matrix before
-        processes = rng.sample(range(1, n + 1), size)
-        a = rng.choice(processes) if rng.random() < 0.8 else rng.randrange(1, n + 1)
-        V = permutation_matrix(n, processes)
-        way = rng.randrange(5)
-        if way <= 1:
-            new = [i for i in processes if i != a][:size - 1]
-        elif way == 2:
-            new = [i for i in processes if i != rng.choice(processes)][:size - 1]
-        elif way == 3:
-            new = [i for i in processes if i != a][:size - 1]
-            i, j = rng.randrange(len(new)), rng.randrange(len(new))
-            new[i], new[j] = new[j], new[i]
-        else:
-            new = [rng.randrange(1, n + 1) for _ in range(size - 1)]
-        while len(new) < size - 1:
-            new.append(rng.randrange(1, n + 1))
-        W = permutation_matrix(n, new)
-        if rng.random() < 0.1:                        # one entry off
-            W[rng.randrange(len(W))][rng.randrange(n)] += rng.choice((1, -1, 2))
-        got = some_branch(ref.shift_claim(G, matrix(V), matrix(W), a))
-        want = [False] * size
-        if a in processes:
-            l = processes.index(a)
-            want[l] = W == strike(V, l)
-        assert got == want, (processes, a, new, got, want)
-        trues += any(want)
+    ballot_claims(rng)
+    trues = sum(shift_claim_once(rng) for _ in range(4000))
     assert 500 < trues < 3500
 
 
