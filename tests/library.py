@@ -66,12 +66,16 @@ def build_hosts(folder):
                         path('include'), path('hosts', 'boardhost.c'), ARCHIVE, '-o', program],
                        check=True)
         hosts.append(('host in C', program))
+    else:
+        print('no C compiler: neither the host in C nor gooseoften_write is tried')
     if shutil.which('rustc'):
         program = os.path.join(folder, 'host_rust')
         subprocess.run(['rustc', '--edition', '2021', '-O', '-D', 'warnings', '-L',
                         os.path.dirname(ARCHIVE), path('hosts', 'boardhost.rs'), '-o', program],
                        check=True)
         hosts.append(('host in Rust', program))
+    else:
+        print('no rustc: the host in Rust is not tried')
     return hosts
 
 
@@ -246,8 +250,7 @@ def main(anew):
     tally = Tally()
     stored, large = stored_boards(), large_boards()
     with tempfile.TemporaryDirectory() as folder:
-        hosts = build_hosts(folder)
-        for name, program in hosts:
+        for name, program in build_hosts(folder):
             tally.compare(name + ', stored boards', verdicts(program, stored, folder),
                           [text for _, text in stored])
             tally.compare(name + ', boards beyond 65,536 bytes', verdicts(program, large, folder),
@@ -261,8 +264,6 @@ def main(anew):
                           content(path('crates', 'job_cases', 'stdout')).decode().splitlines())
             tally.compare('an answer too short', short_answers(library, stored[0][0]),
                           [(15, [7] * 11)] * 7)
-    if not hosts:
-        print('no C compiler and no rustc: nothing was built')
     return 1 if tally.different else 0
 
 
