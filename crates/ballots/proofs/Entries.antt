@@ -2,7 +2,7 @@
 use Prim.Native.Nat.{ℕ, zero, suc, _+_, _*_, _-_, _/_, _%_, _≤_, _<_}
 use mathlib.Core.Path.{_≡_, refl, ap, _∙_}
 use mathlib.Core.List.{List, [], _∷_}
-use native.Mathlib.Nat.{mul-le-mul-right, div-add-mod', mod-mod, mod-lt, div-lt-iff-lt-mul}
+use native.Mathlib.Nat.{div-add-mod', mod-mod, mod-lt, div-lt-iff-lt-mul}
 use native.Mathlib.Omega.{arith}
 use lib.ListN.{length, getD}
 use Rattle.sha256.specs.Message.{sha256}
@@ -21,9 +21,6 @@ use Rattle.ballots.specs.Parts.{matrixOf, opened, lineProof, entryOf, li
 pub spread-part : (q : ℕ) (draws : List ℕ) (from total at count : ℕ) → Spread q draws from total → at + count ≤ from + total → Spread q draws at count
 spread-part q draws from total at count s h =
     record { positive = s .positive; low = s .low; near = omega (arith, s .near); enough = omega (arith, s .enough); below = λ d k. s .below d (omega arith) }
-
-pub cells : (n : ℕ) → n ≤ 8 → n * n ≤ 64
-cells n h = let u : n * n ≤ 8 * n = mul-le-mul-right n h in omega arith
 
 abbrev pub planOf : (b s v from : ℕ) → Plan
 planOf b s v from = record { branches = b; statements = s; known = v; from = from }

@@ -7,6 +7,7 @@ use native.Mathlib.Omega.{arith}
 use lib.ListN.{length, getD}
 use Rattle.sha256.specs.Message.{sha256}
 use Rattle.group.specs.Elements.{Parameters}
+use Rattle.rules.proofs.Sizes.{few-pairs}
 use Rattle.rules.specs.Bytes.{bytes2}
 use Rattle.rules.specs.Records.{SH}
 use Rattle.rules.specs.Claims.{matrixAt}
@@ -26,7 +27,7 @@ module _ (g : Parameters) (s : Shift) (draws : List ℕ) (w : Shifting (g .p) (g
   count-few = let u : s .rows * s .n ≤ 7 * s .n = mul-le-mul-right (s .n) (omega (arith, w)) in omega (arith, w)
 
   pub cells-few : (s .rows + 1) * s .n ≤ 64
-  cells-few = let u : (s .rows + 1) * s .n ≤ 8 * s .n = mul-le-mul-right (s .n) (omega (arith, w)) in omega (arith, w)
+  cells-few = few-pairs (s .rows + 1) (s .n) (omega (arith, w)) (omega (arith, w))
 
   pub planned-shift : (page inverses : List ℕ) → 1028 ≤ length page → InverseTable page (g .p) (g .q) 0 (2 * ((s .rows + 1) * s .n)) inverses →
       Planned g page inverses (s .n) (Shifted 0 512 (s .rows) (s .column)) (planOf (s .rows + 1) (2 + s .rows * s .n) (s .struck) (s .new + s .rows * s .n)) draws

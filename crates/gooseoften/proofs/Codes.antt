@@ -17,7 +17,7 @@ use Rattle.jobs.specs.Replies.{replyOf}
 use Rattle.jobs.specs.declared.Reply.{Reply}
 use Rattle.jobs.specs.declared.Reply.the-variants as W
 use Rattle.whole.proofs.Refusals.{board-refusal, job-refusal}
-use Rattle.gooseoften.specs.Puts.{Placed, Which}
+use Rattle.gooseoften.specs.Puts.{recordNamed, rankingNamed}
 
 pub number-most : (r : Refusal) → refusalNumber r ≤ 15
 number-most R.Length = omega arith
@@ -37,12 +37,12 @@ number-most R.Draws = omega arith
 number-most R.Output = omega arith
 
 -- at most 7 rounds of 1,000 ballots and a sheet, and a record more
-pub placed : (board : List ℕ) (a : Answer) (order : List ℕ) → answerOf a order ≡ checkBoard sha256 board → Placed a
+pub placed : (board : List ℕ) (a : Answer) (order : List ℕ) → answerOf a order ≡ checkBoard sha256 board → recordNamed a ≤ 7008
 placed board (A.Accepted rounds winner) order e = omega arith
 placed board (A.Refused refusal place) order e = board-refusal sha256 board (refusalNumber refusal) place (sym e) .most
 
 -- at most 1,000 rankings
-pub which-placed : (job : Job) (room : ℕ) (a : Reply) (order : List ℕ) → replyOf a order ≡ writeOutcome sha256 job room → Which a
+pub which-placed : (job : Job) (room : ℕ) (a : Reply) (order : List ℕ) → replyOf a order ≡ writeOutcome sha256 job room → rankingNamed a ≤ 7008
 which-placed job room (W.Board long rounds winner) order e = omega arith
 which-placed job room (W.Refused refusal which) order e =
     omega (arith, job-refusal sha256 job room (refusalNumber refusal) which (sym e) .most)

@@ -1,5 +1,5 @@
--- What the library's inner functions are lent, and what they put into an answer.
-use Prim.Native.Nat.{ℕ, _≤_}
+-- What the library's inner functions are given, and what they put into an answer.
+use Prim.Native.Nat.{ℕ}
 use mathlib.Core.List.{List, [], _∷_, _++_}
 use Rattle.rules.specs.declared.Answer.{Answer}
 use Rattle.rules.specs.declared.Answer.the-variants as A
@@ -8,14 +8,14 @@ use Rattle.jobs.specs.declared.Reply.the-variants as W
 use Rattle.output.specs.Written.{written}
 use Rattle.gooseoften.specs.Answers.{resultNumbers}
 
--- a refusal names a record, or a ranking, low enough for its code
-abbrev pub Placed : Answer → Type 0
-Placed (A.Accepted rounds winner) = 0 ≤ 7008
-Placed (A.Refused refusal place) = place ≤ 7008
+-- the record, or the ranking, that a refusal names; 0 where nothing is refused
+abbrev pub recordNamed : Answer → ℕ
+recordNamed (A.Accepted rounds winner) = 0
+recordNamed (A.Refused refusal place) = place
 
-abbrev pub Which : Reply → Type 0
-Which (W.Board long rounds winner) = 0 ≤ 7008
-Which (W.Refused refusal which) = which ≤ 7008
+abbrev pub rankingNamed : Reply → ℕ
+rankingNamed (W.Board long rounds winner) = 0
+rankingNamed (W.Refused refusal which) = which
 
 -- the order stands in an array of 8 with its zeros
 abbrev pub checkPut : Answer → (order answer : List ℕ) → List ℕ

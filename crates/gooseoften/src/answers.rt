@@ -10,7 +10,7 @@ ghost use Rattle.rules.specs.Answers.{refusalNumber, answerOf};
 ghost use Rattle.jobs.specs.Replies.{replyOf};
 ghost use Rattle.output.specs.Written.{written};
 ghost use Rattle.gooseoften.specs.Answers.{refusalCode, resultNumbers, checkCode, writeCode};
-ghost use Rattle.gooseoften.specs.Puts.{Placed, Which, checkPut, replyPut};
+ghost use Rattle.gooseoften.specs.Puts.{recordNamed, rankingNamed, checkPut, replyPut};
 
 fn put_one(answer: &mut [usize], x: usize)
     requires { ⌜ 1 ≤ length (now answer) ⌝ }
@@ -55,7 +55,7 @@ fn code(refusal: Refusal, place: usize) -> usize
 // What check answered: its code is returned, and the result of an accepted board is put into the answer.
 pub fn put_verdict(answer: &mut [usize], verdict: Answer, order: [u8; 8]) -> usize
     requires { ⌜ 10 ≤ length (now answer) ⌝ }
-    requires { ⌜ Placed verdict ⌝ }
+    requires { ⌜ recordNamed verdict ≤ 7008 ⌝ }
     ensures { λ r. ⌜ r ≡ checkCode (answerOf verdict order) ⌝ }
     ensures { λ _. ⌜ now (answer .exit) ≡ checkPut verdict order (now (answer .entry)) ⌝ }
 {
@@ -71,7 +71,7 @@ pub fn put_verdict(answer: &mut [usize], verdict: Answer, order: [u8; 8]) -> usi
 // What write replied.
 pub fn put_reply(answer: &mut [usize], reply: Reply, order: [u8; 8]) -> usize
     requires { ⌜ 11 ≤ length (now answer) ⌝ }
-    requires { ⌜ Which reply ⌝ }
+    requires { ⌜ rankingNamed reply ≤ 7008 ⌝ }
     ensures { λ r. ⌜ r ≡ writeCode (replyOf reply order) ⌝ }
     ensures { λ _. ⌜ now (answer .exit) ≡ replyPut reply order (now (answer .entry)) ⌝ }
 {

@@ -24,9 +24,6 @@ unfolding recordLength shiftLength
 length-later n zero h = absurd (h refl)
 length-later n (suc m) h = refl
 
-pub squares : (n : ℕ) → n ≤ 8 → n * n ≤ 64
-squares n h = let u : n * n ≤ 8 * n = mul-le-mul-right n h in omega arith
-
 -- a later round has few rows and pairs, and at most 8 branches
 pub record Later (n m branch : ℕ) : Type 0 where
   pub rows : n - m ≤ 7

@@ -2,3 +2,4 @@
 pub mod Faults
 pub mod Lists
 pub mod Leaving
+pub mod Sizes

@@ -7,7 +7,7 @@ use Rattle.group.specs.Elements.{parametersOf}
 use Rattle.jobs.specs.Board.{pairBytes}
 use Rattle.ballots.specs.Parts.{matrixOf}
 use Rattle.ballots.proofs.Pages.{put-stands, put-long, length-pairs}
-use Rattle.ballots.proofs.Entries.{cells}
+use Rattle.rules.proofs.Sizes.{cells}
 use borrow.Author.Needs.{needs}
 use Rattle.ballots.proofs.ballot.page_of.Statement.{statement}
 use Rattle.ballots.proofs.ballot.page_of.Tie as tie

@@ -9,7 +9,7 @@ use Rattle.output.specs.Written.{written}
 use Rattle.output.proofs.Laws.{more}
 use Rattle.ballots.specs.Parts.{matrixOf}
 use Rattle.ballots.proofs.Pages.{pairs-back}
-use Rattle.ballots.proofs.Entries.{cells}
+use Rattle.rules.proofs.Sizes.{cells}
 use Rattle.ballots.proofs.Records.{ballot-joined, proofs-start}
 use borrow.Author.Needs.{needs}
 use Rattle.ballots.proofs.ballot.write_ballot.Statement.{statement}

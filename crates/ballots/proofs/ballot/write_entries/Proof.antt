@@ -9,7 +9,8 @@ use Rattle.group.specs.Elements.{parametersOf}
 use Rattle.output.specs.Written.{written}
 use Rattle.output.proofs.Laws.{none, block-more}
 use Rattle.ballots.specs.Parts.{entryIn}
-use Rattle.ballots.proofs.Entries.{cells, length-entry}
+use Rattle.rules.proofs.Sizes.{cells}
+use Rattle.ballots.proofs.Entries.{length-entry}
 use borrow.Author.Needs.{needs}
 use Rattle.ballots.proofs.ballot.write_entries.Statement.{statement}
 use Rattle.ballots.proofs.ballot.write_entries.Tie as tie

@@ -8,7 +8,8 @@ use denote.Ref.{now}
 use Rattle.group.specs.Elements.{parametersOf}
 use Rattle.output.specs.Written.{written}
 use Rattle.ballots.proofs.Pages.{row-few, paged-same}
-use Rattle.ballots.proofs.Entries.{spread-part, cells, planned-entry, entry-is}
+use Rattle.rules.proofs.Sizes.{cells}
+use Rattle.ballots.proofs.Entries.{spread-part, planned-entry, entry-is}
 use borrow.Author.Needs.{needs}
 use Rattle.ballots.proofs.ballot.write_entry.Statement.{statement}
 use Rattle.ballots.proofs.ballot.write_entry.Tie as tie

@@ -8,7 +8,7 @@ use Rattle.group.specs.Elements.{parametersOf}
 use Rattle.output.specs.Written.{written}
 use Rattle.output.proofs.Laws.{more}
 use Rattle.ballots.specs.Parts.{matrixOf}
-use Rattle.ballots.proofs.Entries.{cells}
+use Rattle.rules.proofs.Sizes.{cells}
 use Rattle.ballots.proofs.Records.{length-entries, proofs-joined}
 use borrow.Author.Needs.{needs}
 use Rattle.ballots.proofs.ballot.write_proofs.Statement.{statement}

@@ -10,7 +10,8 @@ use Rattle.statements.proofs.Lines.{line-within, line-fits}
 use Rattle.output.specs.Written.{written}
 use Rattle.ballots.specs.Parts.{lineOf, lineSum}
 use Rattle.ballots.proofs.Secrets.{line-sum}
-use Rattle.ballots.proofs.Entries.{spread-part, cells, planned-line, line-is}
+use Rattle.rules.proofs.Sizes.{cells}
+use Rattle.ballots.proofs.Entries.{spread-part, planned-line, line-is}
 use borrow.Author.Needs.{needs}
 use Rattle.ballots.proofs.lines.write_line.Statement.{statement}
 use Rattle.ballots.proofs.lines.write_line.Tie as tie

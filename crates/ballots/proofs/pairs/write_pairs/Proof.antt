@@ -1,7 +1,7 @@
 use Prim.Native.Nat.{ℕ, _-_, _*_, _≤_}
 use mathlib.Core.Path.{_≡_, refl, ap, _∙_}
 use mathlib.Core.List.{List}
-use native.Mathlib.Nat.{mul-comm, mul-le-mul-right, mod-lt}
+use native.Mathlib.Nat.{mul-comm, mod-lt}
 use native.Mathlib.Omega.{arith}
 use lib.ListN.{length, getD, length-take, length-drop}
 use borrow.Rule.Slice.PartMut.{midOf}
@@ -11,6 +11,7 @@ use Rattle.group.specs.Elements.{parametersOf}
 use Rattle.output.specs.Written.{written}
 use Rattle.output.proofs.Laws.{none, block-more}
 use Rattle.ballots.specs.Parts.{matrixOf}
+use Rattle.rules.proofs.Sizes.{few-pairs}
 use Rattle.ballots.proofs.Pages.{pairIn, pairs-through, made, row-few}
 use borrow.Author.Needs.{needs}
 use Rattle.ballots.proofs.pairs.write_pairs.Statement.{statement}
@@ -24,12 +25,9 @@ Inv-loop out₀ g n rows list draws from count c₀ out c =
 abbrev μ-loop : tie.MeasureT-loop
 μ-loop out₀ g n rows list draws from count c₀ out c = count - c
 
-few : (rows n : ℕ) → rows ≤ 8 → n ≤ 8 → rows * n ≤ 64
-few rows n h k = let u : rows * n ≤ 8 * n = mul-le-mul-right n h in omega arith
-
 loop-holds : tie.Need-loop-holds Inv-loop μ-loop
 unfolding blocks
-loop-holds c = let s = c .before .before in (omega arith, few (s .args .rows) (s .args .n) (omega (arith, s .pre)) (omega (arith, s .pre)), refl, refl, none _)
+loop-holds c = let s = c .before .before in (omega arith, few-pairs (s .args .rows) (s .args .n) (omega (arith, s .pre)) (omega (arith, s .pre)), refl, refl, none _)
 
 loop-again : tie.Need-loop-again Inv-loop μ-loop
 loop-again c =
@@ -66,7 +64,7 @@ write-pairs-spec =
     (tie.spec
     Inv-loop
     μ-loop
-    (λ c. let s = c .before .before in omega (arith, few (s .args .rows) (s .args .n) (omega (arith, s .pre)) (omega (arith, s .pre))))
+    (λ c. let s = c .before .before in omega (arith, few-pairs (s .args .rows) (s .args .n) (omega (arith, s .pre)) (omega (arith, s .pre))))
     loop-holds
     (λ c. omega (arith, c .before .loop .inv .1))
     (λ c. omega (arith, c .before .before .before .before .pre, c .before .loop .inv .1))
