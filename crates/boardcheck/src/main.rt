@@ -1,59 +1,23 @@
 // Reads a board from standard input, and prints the checker's verdict on it.
+use crate::input::Input;
+use libc::STDERR_FILENO;
 use libc::STDIN_FILENO;
-use libc::STDOUT_FILENO;
-use rules::Answer;
 
-fn number(n: usize) {
-    io::print_decimal(STDOUT_FILENO, n as u64);
-}
-
-fn line() {
-    io::write_all(STDOUT_FILENO, b"\n");
-}
-
-// One line for each process that went out.
-fn outs(order: [u8; 8], count: usize) {
-    for i in 0..8usize {
-        if i < count {
-            io::write_all(STDOUT_FILENO, b"out ");
-            number(order[i] as usize);
-            line();
-        }
-    }
-}
-
-fn print(answer: Answer, order: [u8; 8]) {
-    match answer {
-        Answer::Accepted { rounds, winner } => {
-            io::write_all(STDOUT_FILENO, b"accepted\nrounds ");
-            number(rounds);
-            line();
-            if 0 < rounds {
-                outs(order, rounds - 1);
-            }
-            io::write_all(STDOUT_FILENO, b"winner ");
-            number(winner);
-            line();
-        }
-        Answer::Refused { refusal, record } => {
-            io::write_all(STDOUT_FILENO, b"refused ");
-            number(rules::refusal_number(refusal));
-            io::write_all(STDOUT_FILENO, b" ");
-            number(record);
-            line();
-        }
-    }
-}
+mod input;
+mod print;
 
 fn main() {
     let mut board = [0u8; 65537];
-    let n = io::read_full(STDIN_FILENO, &mut board);
-    if 65536 < n {
-        io::write_all(STDOUT_FILENO, b"too long\n");
-        return;
+    let read = input::read_whole(STDIN_FILENO, &mut board);
+    let printed = match read {
+        Input::Failed => {
+            os::fail(b"boardcheck: no verdict, cannot read the board");
+            true
+        }
+        Input::Long => print::too_long(),
+        Input::Whole(length) => print::verdict(&board[..length]),
+    };
+    if !printed {
+        os::fail(b"boardcheck: cannot print the verdict");
     }
-    let checked = checker::check(&board[..n]);
-    let answer = checked.answer;
-    let order = checked.order;
-    print(answer, order);
 }

@@ -1,0 +1,2 @@
+-- What reading the input may come to.
+pub mod Inputs
