@@ -8,7 +8,7 @@
 
 size_t library_check(const uint8_t *board, size_t length, size_t *answer)
 {
-    size_t code = gooseoften_check(board, length, answer, PLAIN_ANSWER);
+    size_t code = gooseoften_check(board, length, answer);
     if (code != 0) {
         memset(answer, 0, PLAIN_ANSWER * sizeof *answer);
         answer[0] = gooseoften_refusal_record(code);

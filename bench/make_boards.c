@@ -103,7 +103,7 @@ static void write_board(const struct size *size, uint8_t *out, size_t length, si
     fill_draws(draws, needed);
     expected(n, due);
     size_t refusal = gooseoften_write(n, k, P, Q, G0, COUNTER, (const uint8_t *)LABEL, 32, rankings,
-                                      k * n, draws, needed, out, length, answer, PLAIN_ANSWER + 1);
+                                      k * n, draws, needed, out, length, answer);
     if (refusal != 0 || answer[PLAIN_ANSWER] != length || memcmp(answer, due, sizeof due) != 0) {
         fprintf(stderr, "%s: the writer answers %zu %zu\n", size->name, refusal, answer[0]);
         exit(1);

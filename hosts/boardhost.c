@@ -2,6 +2,7 @@
  *
  *   boardhost FILE...     a verdict for each file; with no file, for the board on standard input
  *
+ * A board that cannot be read gets a line on standard error and no verdict, and the next one follows.
  * Ends with 0 if all boards are accepted, 1 if one is refused, 2 if one cannot be read. */
 #include <stdio.h>
 #include <stdlib.h>
@@ -40,7 +41,7 @@ static struct bytes read_all(FILE *stream)
 static int print_verdict(const uint8_t *board, size_t length)
 {
     size_t answer[GOOSEOFTEN_CHECK_PLACES];
-    size_t code = gooseoften_check(board, length, answer, GOOSEOFTEN_CHECK_PLACES);
+    size_t code = gooseoften_check(board, length, answer);
     if (code != 0) {
         printf("refused %zu %zu\n", gooseoften_refusal_number(code),
                gooseoften_refusal_record(code));
@@ -54,13 +55,15 @@ static int print_verdict(const uint8_t *board, size_t length)
     return ACCEPTED;
 }
 
-static int verdict_on(FILE *stream)
+/* The verdict on the rest of a stream; what it is called is said where it cannot be read. */
+static int verdict_on(FILE *stream, const char *name)
 {
-    if (stream == NULL) {
-        return UNREAD;
+    struct bytes board = {NULL, 0};
+    if (stream != NULL) {
+        board = read_all(stream);
     }
-    struct bytes board = read_all(stream);
     if (board.start == NULL) {
+        fprintf(stderr, "boardhost: cannot read %s\n", name);
         return UNREAD;
     }
     int verdict = print_verdict(board.start, board.length);
@@ -71,10 +74,7 @@ static int verdict_on(FILE *stream)
 static int verdict_on_file(const char *name)
 {
     FILE *file = fopen(name, "rb");
-    int verdict = verdict_on(file);
-    if (verdict == UNREAD) {
-        fprintf(stderr, "boardhost: cannot read %s\n", name);
-    }
+    int verdict = verdict_on(file, name);
     if (file != NULL) {
         fclose(file);
     }
@@ -84,7 +84,7 @@ static int verdict_on_file(const char *name)
 int main(int count, char **names)
 {
     if (count < 2) {
-        return verdict_on(stdin);
+        return verdict_on(stdin, "standard input");
     }
     int worst = ACCEPTED;
     for (int i = 1; i < count; i++) {

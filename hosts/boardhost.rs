@@ -2,6 +2,7 @@
 //!
 //!     boardhost FILE...     a verdict for each file; with no file, for the board on standard input
 //!
+//! A board that cannot be read gets a line on standard error and no verdict, and the next one follows.
 //! Ends with 0 if all boards are accepted, 1 if one is refused, 2 if one cannot be read.
 use std::io::{self, Read, Write};
 use std::process::ExitCode;
@@ -9,14 +10,13 @@ use std::process::ExitCode;
 /// The places of a check's answer: rounds, winner, and the order of going out in 8 places.
 const PLACES: usize = 10;
 
+const ACCEPTED: u8 = 0;
+const REFUSED: u8 = 1;
+const UNREAD: u8 = 2;
+
 #[link(name = "gooseoften", kind = "static")]
 extern "C" {
-    fn gooseoften_check(
-        board: *const u8,
-        board_length: usize,
-        answer: *mut usize,
-        answer_length: usize,
-    ) -> usize;
+    fn gooseoften_check(board: *const u8, board_length: usize, answer: *mut [usize; PLACES]) -> usize;
 }
 
 enum Verdict {
@@ -27,10 +27,8 @@ enum Verdict {
 /// The verdict on a board. Every slice is allowed: the library asks nothing of the bytes.
 fn check(board: &[u8]) -> Verdict {
     let mut answer = [0usize; PLACES];
-    // SAFETY: both slices are valid for the call, and the answer overlaps nothing else.
-    let code = unsafe {
-        gooseoften_check(board.as_ptr(), board.len(), answer.as_mut_ptr(), answer.len())
-    };
+    // SAFETY: the board is valid for the call, and the answer overlaps nothing else.
+    let code = unsafe { gooseoften_check(board.as_ptr(), board.len(), &mut answer) };
     if code != 0 {
         return Verdict::Refused { number: code % 256, record: code / 256 };
     }
@@ -50,33 +48,41 @@ fn print(verdict: &Verdict, out: &mut impl Write) -> io::Result<()> {
     }
 }
 
-/// Prints the verdict on a board, and says whether it is accepted.
-fn verdict_on(board: &[u8]) -> io::Result<bool> {
-    let verdict = check(board);
+/// Prints the verdict on a board as it was read; what it is called is said where it was not.
+fn verdict_on(read: io::Result<Vec<u8>>, name: &str) -> io::Result<u8> {
+    let Ok(board) = read else {
+        eprintln!("boardhost: cannot read {name}");
+        return Ok(UNREAD);
+    };
+    let verdict = check(&board);
     print(&verdict, &mut io::stdout().lock())?;
-    Ok(matches!(verdict, Verdict::Accepted { .. }))
+    Ok(if matches!(verdict, Verdict::Accepted { .. }) { ACCEPTED } else { REFUSED })
 }
 
-fn run(names: &[String]) -> io::Result<bool> {
+fn standard_input() -> io::Result<Vec<u8>> {
+    let mut board = Vec::new();
+    io::stdin().read_to_end(&mut board)?;
+    Ok(board)
+}
+
+fn run(names: &[String]) -> io::Result<u8> {
     if names.is_empty() {
-        let mut board = Vec::new();
-        io::stdin().read_to_end(&mut board)?;
-        return verdict_on(&board);
+        return verdict_on(standard_input(), "standard input");
     }
-    let mut all = true;
+    let mut worst = ACCEPTED;
     for name in names {
-        all &= verdict_on(&std::fs::read(name)?)?;
+        worst = worst.max(verdict_on(std::fs::read(name), name)?);
     }
-    Ok(all)
+    Ok(worst)
 }
 
 fn main() -> ExitCode {
     let names: Vec<String> = std::env::args().skip(1).collect();
     match run(&names) {
-        Ok(all) => ExitCode::from(if all { 0 } else { 1 }),
+        Ok(worst) => ExitCode::from(worst),
         Err(error) => {
-            eprintln!("boardhost: {error}");
-            ExitCode::from(2)
+            eprintln!("boardhost: cannot print: {error}");
+            ExitCode::from(UNREAD)
         }
     }
 }

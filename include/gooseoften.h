@@ -4,8 +4,9 @@
  * read and write only what is lent. What they return and write is proved.
  *
  * The caller sees to it that each pointer has as many elements behind it as the length after it
- * says, that out and answer overlap nothing else that is lent, and that nobody else writes to what
- * is lent before the call returns. Where a length is 0 the pointer may be anything but null. */
+ * says, that answer has its fixed number of places, that out and answer overlap nothing else that is
+ * lent, and that nobody else writes to what is lent before the call returns. Where a length is 0 the
+ * pointer may be anything, null too: nothing is read or written through it. answer is never null. */
 #ifndef GOOSEOFTEN_H
 #define GOOSEOFTEN_H
 
@@ -33,7 +34,7 @@ enum gooseoften_refusal {
     GOOSEOFTEN_REMAIN = 12,    /* bytes remain after the closing sheet */
     GOOSEOFTEN_RANKINGS = 13,  /* the rankings' length is wrong, or a ranking lacks a process */
     GOOSEOFTEN_DRAWS = 14,     /* draws are too few, or one is outside 1 to q - 1 */
-    GOOSEOFTEN_OUTPUT = 15     /* out is shorter than the board, or answer than its places */
+    GOOSEOFTEN_OUTPUT = 15     /* out is shorter than the board */
 };
 
 static inline size_t gooseoften_refusal_number(size_t code)
@@ -58,20 +59,19 @@ enum gooseoften_answer {
     GOOSEOFTEN_WRITE_PLACES = 11
 };
 
-/* The verdict on a board. 15 where answer has fewer than GOOSEOFTEN_CHECK_PLACES places. */
+/* The verdict on a board. */
 size_t gooseoften_check(const uint8_t *board, size_t board_length,
-                        size_t *answer, size_t answer_length);
+                        size_t answer[GOOSEOFTEN_CHECK_PLACES]);
 
 /* Writes the board of a job to the front of out, or refuses and leaves out and answer as they were.
  * Rankings: a byte a place, one ranking after another. Draws are used in the order of the board;
- * spare ones are ignored. 15 where out is shorter than the board, or, before all else, where answer
- * has fewer than GOOSEOFTEN_WRITE_PLACES places. */
+ * spare ones are ignored. */
 size_t gooseoften_write(size_t n, size_t k, uint32_t p, uint32_t q, uint32_t g0, uint8_t counter,
                         const uint8_t *label, size_t label_length,
                         const uint8_t *rankings, size_t rankings_length,
                         const uint32_t *draws, size_t draws_length,
                         uint8_t *out, size_t out_length,
-                        size_t *answer, size_t answer_length);
+                        size_t answer[GOOSEOFTEN_WRITE_PLACES]);
 
 #ifdef __cplusplus
 }

@@ -1,140 +1,81 @@
 #!/usr/bin/env python3
 """library.py - tests the box's library through its hosts and its C interface:
 
-  python3 tests/library.py [--rebuild]
+  python3 tests/library.py [--without-c] [--without-rust]
 
-It builds libgooseoften.a where it is missing (or with --rebuild), the host in C where gcc, clang or
-cc is found and the host in Rust where rustc is found, and compares:
+It builds libgooseoften.a (`rt staticlib gooseoften`) and the hosts in C and in Rust, and compares:
 
   - the verdicts of both hosts on the stored boards of crates/cases with the stored ones, which the
-    reference made, and with boardcheck's where that is built;
+    reference made;
   - their verdicts on boards beyond 65,536 bytes, sound and damaged, with the reference's;
+  - what both do with files that cannot be read, and with which status they end;
   - gooseoften_write on the stored jobs of crates/job_cases with the stored replies;
-  - both functions with an answer that is too short: 15, and nothing changed.
+  - both functions with a null pointer wherever a length is 0;
+  - the stack that a call takes with the most that README names.
 
-It prints a line for each and ends with 1 where anything is not as due.
+A compiler that is missing fails the test, unless --without-c or --without-rust asks for what needs
+it to be left out.  Prints a line for each comparison and ends with 1 where anything is not as due.
 """
 import ctypes
 import hashlib
 import os
 import random
+import re
 import shutil
 import subprocess
 import sys
 import tempfile
 
-sys.dont_write_bytecode = True
-HERE = os.path.dirname(os.path.abspath(__file__))
-ROOT = os.path.dirname(HERE)
-sys.path[:0] = [HERE, os.path.join(HERE, 'reference')]
+import stored
+from stored import LIMIT, ROOT, Comparison, path
 
-import boardref as ref                                       # noqa: E402
-import gen                                                   # noqa: E402
+import boardref as ref
+import gen
+import interface
 
-ARCHIVE = os.path.join(ROOT, 'target', 'staticlib', 'libgooseoften.a')
-BOARDCHECK = os.path.join(ROOT, 'target', 'bin', 'boardcheck')
-LIMIT = 65536                                                # of boardcheck
-
-
-def path(*parts):
-    return os.path.join(ROOT, *parts)
-
-
-def content(name):
-    with open(name, 'rb') as f:
-        return f.read()
+NAMES = ('gcc', 'clang', 'cc')
 
 
 # ------------------------------------------------------------------ builds
 
-def build_library(anew):
-    if anew or not os.path.exists(ARCHIVE):
-        subprocess.run(['rt', 'staticlib', 'gooseoften'], cwd=ROOT, check=True,
-                       stdout=subprocess.DEVNULL)
-
-
 def c_compiler():
-    return next((c for c in ('gcc', 'clang', 'cc') if shutil.which(c)), None)
+    found = next((c for c in NAMES if shutil.which(c)), None)
+    assert found, 'no C compiler: --without-c leaves out what needs one'
+    return found
 
 
-def build_hosts(folder):
-    """The hosts that can be built here: (name, program)."""
+def compile_c(source, program, *more):
+    subprocess.run([c_compiler(), '-std=c11', '-O2', '-Wall', '-Wextra', '-Werror', '-I',
+                    path('include'), path(*source), interface.ARCHIVE, '-o', program, *more],
+                   check=True)
+    return program
+
+
+def build_hosts(folder, arguments):
+    """The hosts asked for: (name, program)."""
     hosts = []
-    if c_compiler():
-        program = os.path.join(folder, 'host_c')
-        subprocess.run([c_compiler(), '-std=c11', '-O2', '-Wall', '-Wextra', '-Werror', '-I',
-                        path('include'), path('hosts', 'boardhost.c'), ARCHIVE, '-o', program],
-                       check=True)
-        hosts.append(('host in C', program))
-    else:
-        print('no C compiler: neither the host in C nor gooseoften_write is tried')
-    if shutil.which('rustc'):
+    if '--without-c' not in arguments:
+        hosts.append(('host in C', compile_c(('hosts', 'boardhost.c'),
+                                             os.path.join(folder, 'host_c'))))
+    if '--without-rust' not in arguments:
+        assert shutil.which('rustc'), 'no rustc: --without-rust leaves out what needs it'
         program = os.path.join(folder, 'host_rust')
         subprocess.run(['rustc', '--edition', '2021', '-O', '-D', 'warnings', '-L',
-                        os.path.dirname(ARCHIVE), path('hosts', 'boardhost.rs'), '-o', program],
-                       check=True)
+                        os.path.dirname(interface.ARCHIVE), path('hosts', 'boardhost.rs'), '-o',
+                        program], check=True)
         hosts.append(('host in Rust', program))
-    else:
-        print('no rustc: the host in Rust is not tried')
     return hosts
 
 
 def load_library(folder):
     """The archive as a library that Python can call."""
     shared = os.path.join(folder, 'gooseoften.so')
-    subprocess.run([c_compiler(), '-shared', '-Wl,--whole-archive', ARCHIVE,
+    subprocess.run([c_compiler(), '-shared', '-Wl,--whole-archive', interface.ARCHIVE,
                     '-Wl,--no-whole-archive', '-o', shared], check=True)
-    library = ctypes.CDLL(shared)
-    library.gooseoften_check.restype = library.gooseoften_write.restype = ctypes.c_size_t
-    return library
+    return interface.signatures(ctypes.CDLL(shared))
 
 
-# ------------------------------------------------------------------ stored input
-
-class Frames:
-    """The numbers and pieces of a stored input: see make_cases.py."""
-
-    def __init__(self, data):
-        self.data = data
-        self.at = 0
-
-    def more(self):
-        return self.at < len(self.data)
-
-    def take(self, length):
-        self.at += length
-        assert self.at <= len(self.data), 'damaged input'
-        return self.data[self.at - length:self.at]
-
-    def number(self):
-        return int.from_bytes(self.take(4), 'big')
-
-    def piece(self):
-        return self.take(self.number())
-
-
-def stored_boards():
-    """(board, verdict as boardcheck prints it) of each stored board."""
-    frames = Frames(content(path('crates', 'cases', 'stdin')))
-    boards = []
-    for line in content(path('crates', 'cases', 'stdout')).decode().splitlines():
-        name, words = line.split(' ', 1)
-        assert frames.piece().decode() == name, name
-        boards.append((frames.piece(), as_lines(words)))
-    assert not frames.more()
-    return boards
-
-
-def as_lines(words):
-    """A verdict on one line, as boardcheck's lines."""
-    if words.startswith('refused'):
-        return words + '\n'
-    for word in ('rounds', 'out', 'winner'):
-        words = words.replace(' %s ' % word, '\n%s ' % word)
-    return words + '\n'
-
-
-# ------------------------------------------------------------------ boards
+# ------------------------------------------------------------------ hosts
 
 def large_boards():
     """(board, the reference's verdict): sound boards beyond boardcheck's limit, and damaged ones."""
@@ -154,118 +95,130 @@ def large_boards():
     return [(board, ref.answer_text(ref.check(board))) for board in boards]
 
 
+def run_host(program, *names, **more):
+    done = subprocess.run([program, *names], capture_output=True, **more)
+    return done.stdout.decode(), done.stderr.decode(), done.returncode
+
+
+def due_of(verdict):
+    return verdict, '', 0 if verdict.startswith('accepted') else 1
+
+
 def verdicts(program, boards, folder):
-    """What a host prints for each board, lent from a file of its own."""
-    printed = []
-    for board, _ in boards:
-        name = os.path.join(folder, 'board')
+    """What a host does with each board, lent from a file of its own."""
+    name = os.path.join(folder, 'board')
+    seen = []
+    for board in boards:
         with open(name, 'wb') as f:
             f.write(board)
-        printed.append(subprocess.run([program, name], capture_output=True).stdout.decode())
-    return printed
+        seen.append(run_host(program, name))
+    return seen
 
 
-def boardcheck(boards):
-    return [subprocess.run([BOARDCHECK], input=board, capture_output=True).stdout.decode()
-            for board, _ in boards]
+def unreadable(program):
+    """What a host does with files of which some cannot be read, and with no file at all."""
+    sound = path('crates', 'boardcheck', 'stdin')
+    folder, missing = path('tests'), path('tests', 'no_such_board')
+    with open(sound, 'rb') as board, open('/dev/null') as nothing:
+        return [run_host(program, missing), run_host(program, missing, sound, folder, sound),
+                run_host(program, sound, '/dev/null'), run_host(program, stdin=board),
+                run_host(program, stdin=nothing)]
 
 
-# ------------------------------------------------------------------ jobs
+def unreadable_due():
+    sound = stored.content('crates', 'boardcheck', 'stdout').decode()
+    folder, missing = path('tests'), path('tests', 'no_such_board')
+    line = 'boardhost: cannot read %s\n'
+    return [('', line % missing, 2), (2 * sound, line % missing + line % folder, 2),
+            (sound + 'refused 1 0\n', '', 1), (sound, '', 0), ('refused 1 0\n', '', 1)]
 
-def numbers(values):
-    return (ctypes.c_size_t * len(values))(*values)
+
+# ------------------------------------------------------------------ the functions
+
+def lent(kind, values):
+    """An array of C, and how many elements it has; null where it has none."""
+    return ((kind * len(values))(*values), len(values)) if values else (None, 0)
 
 
-def reply(library, frames):
-    """The line of crates/job_cases/stdout for the next stored job."""
-    name = frames.piece().decode()
-    n, K, p, q, g0, counter, room = (frames.number() for _ in range(7))
-    label, rankings, draws = frames.piece(), frames.piece(), frames.piece()
-    count = len(draws) // 4
-    drawn = (ctypes.c_uint32 * count)(*(int.from_bytes(draws[4 * i:4 * i + 4], 'big')
-                                        for i in range(count)))
-    before = bytes(i % 251 for i in range(room))
-    out = (ctypes.c_uint8 * max(room, 1)).from_buffer_copy(before or b'\0')
-    answer = numbers([99] * 11)
-    code = library.gooseoften_write(
-        ctypes.c_size_t(n), ctypes.c_size_t(K), p, q, g0, ctypes.c_uint8(counter),
-        label, ctypes.c_size_t(len(label)), rankings, ctypes.c_size_t(len(rankings)),
-        drawn, ctypes.c_size_t(count), out, ctypes.c_size_t(room), answer, ctypes.c_size_t(11))
-    after = bytes(out)[:room]
+def write(library, job, out, answer):
+    return library.gooseoften_write(
+        job.n, job.K, job.p, job.q, job.g0, job.counter, *lent(ctypes.c_uint8, list(job.label)),
+        *lent(ctypes.c_uint8, list(job.rankings)), *lent(ctypes.c_uint32, job.draws), out,
+        len(out) if out is not None else 0, answer)
+
+
+def reply(library, job):
+    """The line of crates/job_cases/stdout for a job."""
+    before = bytes(i % 251 for i in range(job.room))
+    out = lent(ctypes.c_uint8, list(before))[0]
+    answer = (ctypes.c_size_t * 11)(*[99] * 11)
+    code = write(library, job, out, answer)
+    after = bytes(out) if out is not None else b''
     if code:
         same = after == before and list(answer) == [99] * 11
-        return '%s refused %d %d, output %s' % (name, code % 256, code // 256,
+        return '%s refused %d %d, output %s' % (job.name, code % 256, code // 256,
                                                 'unchanged' if same else 'changed')
     rounds, winner, order, length = answer[0], answer[1], answer[2:10], answer[10]
     outs = ''.join(' out %d' % process for process in order[:rounds - 1])
     same = after[length:] == before[length:] and not any(order[rounds - 1:])
     return '%s written %d %s rounds %d%s winner %d, rest %s' % (
-        name, length, hashlib.sha256(after[:length]).hexdigest(), rounds, outs, winner,
+        job.name, length, hashlib.sha256(after[:length]).hexdigest(), rounds, outs, winner,
         'unchanged' if same else 'changed')
 
 
-def replies(library):
-    frames = Frames(content(path('crates', 'job_cases', 'stdin')))
-    while frames.more():
-        yield reply(library, frames)
-
-
-def short_answers(library, board):
-    """What both functions return and leave where the answer has a place too few."""
+def nulls(library, job):
+    """(code, answer unchanged) where each slice in turn, and each from it on, is null and empty."""
+    empty = [dict(label=b''), dict(rankings=b''), dict(draws=[]), dict(room=0),
+             dict(rankings=b'', draws=[]), dict(label=b'', rankings=b'', draws=[], room=0)]
     seen = []
-    for places in (0, 1, 9):
-        answer = numbers([7] * 11)
-        code = library.gooseoften_check(board, ctypes.c_size_t(len(board)), answer,
-                                        ctypes.c_size_t(places))
-        seen.append((code, list(answer)))
-    for places in (0, 10):
-        answer, out = numbers([7] * 11), (ctypes.c_uint8 * 4)(7, 7, 7, 7)
-        code = library.gooseoften_write(
-            ctypes.c_size_t(9), ctypes.c_size_t(0), 4, 4, 0, ctypes.c_uint8(0), b'x',
-            ctypes.c_size_t(1), b'x', ctypes.c_size_t(1), numbers([1]), ctypes.c_size_t(1), out,
-            ctypes.c_size_t(4), answer, ctypes.c_size_t(places))
-        seen.append((code, list(answer)))
-        seen.append((15, list(answer)) if bytes(out) == b'\7' * 4 else 'out changed')
-    return seen
+    for changed in empty:
+        poor = job._replace(**changed)
+        answer = (ctypes.c_size_t * 11)(*[7] * 11)
+        out = lent(ctypes.c_uint8, [0] * poor.room)[0]
+        seen.append((write(library, poor, out, answer), list(answer) == [7] * 11))
+    answer = (ctypes.c_size_t * 10)(*[7] * 10)
+    return seen + [(library.gooseoften_check(None, 0, answer), list(answer) == [7] * 10)]
 
 
-# ------------------------------------------------------------------ comparison
-
-class Tally:
-    def __init__(self):
-        self.different = 0
-
-    def compare(self, what, got, due):
-        bad = [i for i, (a, b) in enumerate(zip(got, due)) if a != b]
-        bad += [] if len(got) == len(due) else ['%d instead of %d' % (len(got), len(due))]
-        print('%s: %d compared, %d different' % (what, len(due), len(bad)))
-        for i in bad[:5]:
-            print('  number %s%s' % (i, '' if isinstance(i, str) else
-                                     ': %r, due %r' % (got[i], due[i])))
-        self.different += len(bad)
+def stack(folder):
+    """The stack that README names, and whether a call takes no more."""
+    text = stored.content('README.md').decode()
+    most = [int(x.replace(',', '')) for x in re.search(
+        r'at most ([\d,]+) bytes of stack for a check and ([\d,]+) for a board written',
+        text).groups()]
+    program = compile_c(('tests', 'stack.c'), os.path.join(folder, 'stack'))
+    words = subprocess.run([program], check=True, capture_output=True, text=True).stdout.split()
+    print('stack: ' + ' '.join(words))
+    return [int(words[1]) <= most[0], int(words[3]) <= most[1]]
 
 
-def main(anew):
-    build_library(anew)
-    tally = Tally()
-    stored, large = stored_boards(), large_boards()
+def main(arguments):
+    subprocess.run(['rt', 'staticlib', 'gooseoften'], cwd=ROOT, check=True,
+                   stdout=subprocess.DEVNULL)
+    comparison = Comparison()
+    boards, large = stored.boards(), large_boards()
     with tempfile.TemporaryDirectory() as folder:
-        for name, program in build_hosts(folder):
-            tally.compare(name + ', stored boards', verdicts(program, stored, folder),
-                          [text for _, text in stored])
-            tally.compare(name + ', boards beyond 65,536 bytes', verdicts(program, large, folder),
-                          [text for _, text in large])
-        if os.path.exists(BOARDCHECK):
-            small = [pair for pair in stored if len(pair[0]) <= LIMIT]
-            tally.compare('boardcheck, stored boards', boardcheck(small), [t for _, t in small])
-        if c_compiler():
-            library = load_library(folder)
-            tally.compare('gooseoften_write, stored jobs', list(replies(library)),
-                          content(path('crates', 'job_cases', 'stdout')).decode().splitlines())
-            tally.compare('an answer too short', short_answers(library, stored[0][0]),
-                          [(15, [7] * 11)] * 7)
-    return 1 if tally.different else 0
+        for name, program in build_hosts(folder, arguments):
+            comparison.compare(name + ', stored boards',
+                               verdicts(program, [board.bytes for board in boards], folder),
+                               [due_of(board.verdict) for board in boards])
+            comparison.compare(name + ', boards beyond 65,536 bytes',
+                               verdicts(program, [board for board, _ in large], folder),
+                               [due_of(text) for _, text in large])
+            comparison.compare(name + ', files that cannot be read', unreadable(program),
+                               unreadable_due())
+        if '--without-c' not in arguments:
+            library, jobs = load_library(folder), stored.jobs()
+            comparison.compare('gooseoften_write, stored jobs',
+                               [reply(library, job) for job in jobs],
+                               stored.content('crates', 'job_cases', 'stdout').decode().splitlines())
+            sound = next(job for job in jobs if job.name == 'two')
+            comparison.compare('null pointers of length 0', nulls(library, sound),
+                               [(5, True), (13, True), (14, True), (15, True), (13, True), (5, True),
+                                (1, True)])
+            comparison.compare('stack of a call', stack(folder), [True, True])
+    return comparison.status()
 
 
 if __name__ == '__main__':
-    sys.exit(main('--rebuild' in sys.argv[1:]))
+    sys.exit(main(sys.argv[1:]))

@@ -2,10 +2,11 @@
 """make_cases.py - makes the input and the expected output of the test programs `cases` (boards)
 and `job_cases` (writer jobs), with the reference in tests/reference:
 
-  python3 tests/make_cases.py
+  python3 tests/make_cases.py [--check]
 
 It writes crates/cases/{stdin,stdout} and crates/job_cases/{stdin,stdout}, and prints what the cases
-cover.  Every run makes the same bytes.  No program under test has a part in it.
+cover.  Every run makes the same bytes.  No program under test has a part in it.  With --check it
+writes nothing, and ends with 1 where a stored file is not what it makes.
 
 The input is a run of frames, to its end.  Every number is of 4 bytes, unsigned, high byte first; a
 piece is its length, a number, and then its bytes.
@@ -25,17 +26,14 @@ Before a job, byte i of the program's output buffer is i modulo 251; the last wo
 whether what the writer should have left alone is still so (`changed` if not).
 """
 import hashlib
-import os
 import sys
 
-sys.dont_write_bytecode = True
-HERE = os.path.dirname(os.path.abspath(__file__))
-sys.path[:0] = [HERE, os.path.join(HERE, 'reference')]
+from stored import Comparison, content, path
 
-import boardref as ref                                       # noqa: E402
-import board_cases                                           # noqa: E402
-import job_cases                                             # noqa: E402
-from boardref import be                                      # noqa: E402
+import boardref as ref
+import board_cases
+import job_cases
+from boardref import be
 
 
 def piece(data):
@@ -71,21 +69,34 @@ def job_case(name, job, expect):
     return frame, '%s %s\n' % (name, line)
 
 
-def make(crate, cases, one):
+def make(cases, one):
+    """The bytes of stdin and of stdout."""
     made = [one(name, case, expect) for name, case, expect, _ in cases.items]
-    folder = os.path.join(HERE, '..', 'crates', crate)
-    os.makedirs(folder, exist_ok=True)
-    data = b''.join(frame for frame, _ in made)
-    with open(os.path.join(folder, 'stdin'), 'wb') as f:
-        f.write(data)
-    with open(os.path.join(folder, 'stdout'), 'w', newline='\n') as f:
-        f.write(''.join(line for _, line in made))
-    print('%s: %d cases, %d bytes' % (crate, len(made), len(data)))
+    return b''.join(frame for frame, _ in made), ''.join(line for _, line in made).encode()
+
+
+def store(crate, cases, files):
+    for name, data in files:
+        with open(path('crates', crate, name), 'wb') as f:
+            f.write(data)
+    print('%s: %d cases, %d bytes' % (crate, len(cases.items), len(files[0][1])))
     print('| covered | cases: first, middle, last place |\n|---|---|')
     for text, numbers in cases.rows():
         print('| %s | %s |' % (text, ', '.join('-' if x is None else str(x) for x in numbers)))
 
 
+def main(check):
+    comparison = Comparison()
+    for crate, cases, one in (('cases', board_cases.boards(), board_case),
+                              ('job_cases', job_cases.jobs(), job_case)):
+        files = list(zip(('stdin', 'stdout'), make(cases, one)))
+        if check:
+            comparison.compare(crate + ', stored files', [content('crates', crate, name) == data
+                                                          for name, data in files], [True, True])
+        else:
+            store(crate, cases, files)
+    return comparison.status()
+
+
 if __name__ == '__main__':
-    make('cases', board_cases.boards(), board_case)
-    make('job_cases', job_cases.jobs(), job_case)
+    sys.exit(main('--check' in sys.argv[1:]))

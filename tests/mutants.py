@@ -10,9 +10,9 @@ import os
 import sys
 import types
 
-sys.dont_write_bytecode = True
-HERE = os.path.dirname(os.path.abspath(__file__))
-CRATE = os.path.join(HERE, '..', 'crates', 'cases')
+import stored
+from stored import HERE
+
 # the modules of the reference, each after those that it imports
 MODULES = ('board.sizes', 'board.group', 'board.proofs', 'board.count', 'board.plain_count',
            'board.reading', 'board.check', 'board.write', 'boardref')
@@ -182,21 +182,10 @@ def load(texts):
     return module
 
 
-def pieces(data):
-    at = 0
-    while at < len(data):
-        length = int.from_bytes(data[at:at + 4], 'big')
-        yield data[at + 4:at + 4 + length]
-        at += 4 + length
-
-
-def stored(reference):
+def judged(reference):
     """(name, board, answer) of each stored board, the smallest first."""
-    with open(os.path.join(CRATE, 'stdin'), 'rb') as f:
-        parts = list(pieces(f.read()))
-    boards = [(parts[i].decode(), parts[i + 1]) for i in range(0, len(parts), 2)]
-    return [(name, board, reference.check(board))
-            for name, board in sorted(boards, key=lambda b: len(b[1]))]
+    return [(board.name, board.bytes, reference.check(board.bytes))
+            for board in sorted(stored.boards(), key=lambda board: len(board.bytes))]
 
 
 def answer(mutant, board):
@@ -208,7 +197,7 @@ def answer(mutant, board):
 
 def main():
     texts = {name: text_of(name) for name in MODULES}
-    boards = stored(load(texts))
+    boards = judged(load(texts))
     survivors = []
     for name, old, new in MUTANTS:
         found = sum(text.count(old) for text in texts.values())

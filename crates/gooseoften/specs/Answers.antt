@@ -1,14 +1,10 @@
 -- What a call from C returns, and what its answer then holds.
 use Prim.Native.Nat.{ℕ, _+_, _*_}
-use mathlib.Core.Bool.{cond}
 use mathlib.Core.List.{List, [], _∷_, _++_}
-use lib.Dec.{ltb}
-use lib.ListN.{length}
-use Rattle.sha256.specs.Message.{sha256}
-use Rattle.rules.specs.Check.{Verdict, accepted, refused, checkBoard}
+use Rattle.rules.specs.Check.{Verdict, accepted, refused}
 use Rattle.rules.specs.Answers.{padded}
 use Rattle.jobs.specs.Job.{Job}
-use Rattle.jobs.specs.Write.{Outcome, boardWritten, jobRefused, writeOutcome, writeOutput}
+use Rattle.jobs.specs.Write.{Outcome, boardWritten, jobRefused}
 use Rattle.output.specs.Written.{written}
 
 -- "The result of a refusal is its number and the record's number": both in one number
@@ -29,10 +25,6 @@ abbrev pub checkAnswer : Verdict → (answer : List ℕ) → List ℕ
 checkAnswer (accepted rounds order winner) answer = written (resultNumbers rounds winner (padded order)) answer
 checkAnswer (refused number place) answer = answer
 
--- 15 where the answer has fewer than 10 places
-abbrev pub checkCall : (board answer : List ℕ) → Verdict
-checkCall board answer = cond (ltb (length answer) 10) (refused 15 0) (checkBoard sha256 board)
-
 -- ---- write: 0 and the result, or the refusal and no change
 
 abbrev pub job : (n K p q g0 counter : ℕ) (label rankings draws : List ℕ) → Job
@@ -47,10 +39,3 @@ writeCode (jobRefused number which) = refusalCode number which
 abbrev pub writeAnswer : Outcome → (answer : List ℕ) → List ℕ
 writeAnswer (boardWritten long rounds order winner) answer = written (resultNumbers rounds winner (padded order) ++ (long ∷ [])) answer
 writeAnswer (jobRefused number which) answer = answer
-
--- 15 where the answer has fewer than 11 places
-abbrev pub writeCall : Job → (out answer : List ℕ) → Outcome
-writeCall job out answer = cond (ltb (length answer) 11) (jobRefused 15 0) (writeOutcome sha256 job (length out))
-
-abbrev pub writeOut : Job → (out answer : List ℕ) → List ℕ
-writeOut job out answer = cond (ltb (length answer) 11) out (writeOutput sha256 job out)

@@ -2,19 +2,20 @@
 use group::Element;
 use writer::Job;
 ghost use mathlib.Core.Path.{_≡_};
-ghost use Rattle.gooseoften.specs.Answers.{job, checkCode, checkAnswer, checkCall, writeCode, writeAnswer, writeCall, writeOut};
+ghost use lib.ListN.{length};
+ghost use Rattle.sha256.specs.Message.{sha256};
+ghost use Rattle.rules.specs.Check.{checkBoard};
+ghost use Rattle.jobs.specs.Write.{writeOutcome, writeOutput};
+ghost use Rattle.gooseoften.specs.Answers.{job, checkCode, checkAnswer, writeCode, writeAnswer};
 
 mod answers;
 
 // The verdict on a board.
 #[no_mangle]
-pub extern "C" fn gooseoften_check(board: &[u8], answer: &mut [usize]) -> usize
-    ensures { λ r. ⌜ r ≡ checkCode (checkCall (now (board .entry)) (now (answer .entry))) ⌝ }
-    ensures { λ _. ⌜ now (answer .exit) ≡ checkAnswer (checkCall (now (board .entry)) (now (answer .entry))) (now (answer .entry)) ⌝ }
+pub extern "C" fn gooseoften_check(board: &[u8], answer: &mut [usize; 10]) -> usize
+    ensures { λ r. ⌜ r ≡ checkCode (checkBoard sha256 (now (board .entry))) ⌝ }
+    ensures { λ _. ⌜ now (answer .exit) ≡ checkAnswer (checkBoard sha256 (now (board .entry))) (now (answer .entry)) ⌝ }
 {
-    if answer.len() < 10 {
-        return 15;
-    }
     let checked = checker::check(board);
     let verdict = checked.answer;
     let order = checked.order;
@@ -34,15 +35,12 @@ pub extern "C" fn gooseoften_write(
     rankings: &[u8],
     draws: &[u32],
     out: &mut [u8],
-    answer: &mut [usize],
+    answer: &mut [usize; 11],
 ) -> usize
-    ensures { λ r. ⌜ r ≡ writeCode (writeCall (job n k p q g0 counter (now (label .entry)) (now (rankings .entry)) (now (draws .entry))) (now (out .entry)) (now (answer .entry))) ⌝ }
-    ensures { λ _. ⌜ now (answer .exit) ≡ writeAnswer (writeCall (job n k p q g0 counter (now (label .entry)) (now (rankings .entry)) (now (draws .entry))) (now (out .entry)) (now (answer .entry))) (now (answer .entry)) ⌝ }
-    ensures { λ _. ⌜ now (out .exit) ≡ writeOut (job n k p q g0 counter (now (label .entry)) (now (rankings .entry)) (now (draws .entry))) (now (out .entry)) (now (answer .entry)) ⌝ }
+    ensures { λ r. ⌜ r ≡ writeCode (writeOutcome sha256 (job n k p q g0 counter (now (label .entry)) (now (rankings .entry)) (now (draws .entry))) (length (now (out .entry)))) ⌝ }
+    ensures { λ _. ⌜ now (answer .exit) ≡ writeAnswer (writeOutcome sha256 (job n k p q g0 counter (now (label .entry)) (now (rankings .entry)) (now (draws .entry))) (length (now (out .entry)))) (now (answer .entry)) ⌝ }
+    ensures { λ _. ⌜ now (out .exit) ≡ writeOutput sha256 (job n k p q g0 counter (now (label .entry)) (now (rankings .entry)) (now (draws .entry))) (now (out .entry)) ⌝ }
 {
-    if answer.len() < 11 {
-        return 15;
-    }
     let job = Job {
         n,
         k,

@@ -1,0 +1,78 @@
+/* How much stack a call of the library takes: it runs on a stack of its own, filled beforehand, of
+ * which the part that was written to is counted. It writes a board of 8 processes in 7 rounds, checks
+ * it, and prints the bytes of each call. */
+#define _GNU_SOURCE
+#include <stdio.h>
+#include <stdlib.h>
+#include <string.h>
+#include <ucontext.h>
+
+#include "gooseoften.h"
+
+enum { ROOM = 1 << 20, FILL = 0xa5, N = 8, K = 2, DRAWS = 10000, BOARD = 1 << 16 };
+
+static uint8_t board[BOARD];
+static size_t length, code;
+static size_t answer[GOOSEOFTEN_WRITE_PLACES];
+static ucontext_t caller, callee;
+
+static void check(void)
+{
+    code = gooseoften_check(board, length, answer);
+}
+
+static void write_board(void)
+{
+    static uint8_t rankings[N * K];
+    static uint32_t draws[DRAWS];
+    const char *label = "Gooseoften, stack of one call   ";
+    for (size_t i = 0; i < N * K; i++) {
+        rankings[i] = (uint8_t)(1 + i % N);
+    }
+    rankings[N] = 2; /* the second ballot ranks 2, 1, 3 and so on: nobody gets more than half */
+    rankings[N + 1] = 1;
+    for (size_t i = 0; i < DRAWS; i++) {
+        draws[i] = (uint32_t)(1 + i);
+    }
+    code = gooseoften_write(N, K, 2147483579, 1073741789, 4, 0, (const uint8_t *)label, 32, rankings,
+                            sizeof rankings, draws, DRAWS, board, sizeof board, answer);
+    length = answer[GOOSEOFTEN_BOARD_LENGTH];
+}
+
+/* The bytes of stack that a call writes to. */
+static size_t stack_of(void (*call)(void))
+{
+    uint8_t *room = malloc(ROOM);
+    size_t untouched = 0;
+    if (room == NULL) {
+        exit(2);
+    }
+    memset(room, FILL, ROOM);
+    getcontext(&callee);
+    callee.uc_stack.ss_sp = room;
+    callee.uc_stack.ss_size = ROOM;
+    callee.uc_link = &caller;
+    makecontext(&callee, call, 0);
+    swapcontext(&caller, &callee);
+    while (untouched < ROOM && room[untouched] == FILL) {
+        untouched++;
+    }
+    free(room);
+    return ROOM - untouched;
+}
+
+int main(void)
+{
+    size_t writes = stack_of(write_board);
+    if (code != 0 || answer[GOOSEOFTEN_ROUNDS] != N - 1) {
+        fprintf(stderr, "stack: the board was not written: %zu\n", code);
+        return 1;
+    }
+    size_t checks = stack_of(check);
+    if (code != 0) {
+        fprintf(stderr, "stack: the board was not accepted: %zu\n", code);
+        return 1;
+    }
+    printf("check %zu write %zu\n", checks, writes);
+    return 0;
+}
