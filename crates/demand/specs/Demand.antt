@@ -1,4 +1,4 @@
--- What the third demand says of a call of `check`, and of a call of `write`. The demand's words are in quotation marks.
+-- What the third demand says of a call of `check`, and of a call of `write`.
 use Prim.Native.Nat.{ℕ, _-_, _≤_}
 use mathlib.Core.Path.{_≡_}
 use mathlib.Core.List.{List}
@@ -14,7 +14,7 @@ use Rattle.jobs.specs.declared.Written.{Written}
 use Rattle.jobs.specs.declared.Reply.the-variants as W
 use Rattle.whole.specs.ThirdDemand.{IsPlain, Valid, IsWritten}
 
--- "an accepted board whose matrices open to rankings and struck rows has the plain instant-runoff count's rounds, counts, order and winner":
+-- an accepted board whose matrices open to rankings and struck rows has the plain count's rounds, counts, order and winner:
 -- of the answer r to the board s
 abbrev pub AcceptedIsPlain : (s : List ℕ) → Checked → Type 0
 AcceptedIsPlain s r =
@@ -23,7 +23,7 @@ AcceptedIsPlain s r =
     Opens s rankings rounds →
     IsPlain s rounds (take (rounds - 1) (r .order)) winner (plainCount (header s .n) (table (header s .K) rankings))
 
--- "every board written by the rules from 1 to 1,000 rankings of 2 to 8 processes, in any valid group with any valid draws, is accepted with that count":
+-- every board written by the rules from 1 to 1,000 rankings of 2 to 8 processes, in any valid group with any valid draws, is accepted with that count:
 -- of the reply r to a job whose output held `before`, and then held `after`
 pub record WrittenIsPlain (job : Job) (before after : List ℕ) (r : Written) : Type 0 where
   -- the reply has the board's length and the plain count's rounds, order and winner

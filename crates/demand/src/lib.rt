@@ -1,12 +1,20 @@
-// The third demand on running code: what `check` and `write` answer is what the plain count says.
+// The third demand on running code: what `check` and `write` answer is what the plain count says. Their own contracts are repeated.
 use jobs::Written;
 use rules::Checked;
 use writer::Job;
+ghost use mathlib.Core.Path.{_≡_};
+ghost use lib.ListN.{length};
+ghost use Rattle.sha256.specs.Message.{sha256};
+ghost use Rattle.rules.specs.Check.{checkBoard};
+ghost use Rattle.rules.specs.Answers.{verdictOf, orderOf};
+ghost use Rattle.jobs.specs.Write.{writeOutcome, writeOutput};
+ghost use Rattle.jobs.specs.Replies.{outcomeOf, orderWritten};
 ghost use Rattle.writer.specs.Jobs.{jobOf};
 ghost use Rattle.demand.specs.Demand.{AcceptedIsPlain, ValidIsWritten};
 
 // First half, of any byte string.
 pub fn check(board: &[u8]) -> Checked
+    ensures { λ r. ⌜ (verdictOf r ≡ checkBoard sha256 (now (board .entry))) × (r .order ≡ orderOf (checkBoard sha256 (now (board .entry)))) ⌝ }
     ensures { λ r. ⌜ AcceptedIsPlain (now (board .entry)) r ⌝ }
 {
     checker::check(board)
@@ -14,6 +22,9 @@ pub fn check(board: &[u8]) -> Checked
 
 // Second half, of any job.
 pub fn write(job: Job, label: &[u8], rankings: &[u8], draws: &[u32], out: &mut [u8]) -> Written
+    ensures { λ r. ⌜ outcomeOf r ≡ writeOutcome sha256 (jobOf job (now (label .entry)) (now (rankings .entry)) (now (draws .entry))) (length (now (out .entry))) ⌝ }
+    ensures { λ r. ⌜ r .order ≡ orderWritten (writeOutcome sha256 (jobOf job (now (label .entry)) (now (rankings .entry)) (now (draws .entry))) (length (now (out .entry)))) ⌝ }
+    ensures { λ _. ⌜ now (out .exit) ≡ writeOutput sha256 (jobOf job (now (label .entry)) (now (rankings .entry)) (now (draws .entry))) (now (out .entry)) ⌝ }
     ensures { λ r. ⌜ ValidIsWritten (jobOf job (now (label .entry)) (now (rankings .entry)) (now (draws .entry))) (now (out .entry)) (now (out .exit)) r ⌝ }
 {
     writer::write(job, label, rankings, draws, out)

@@ -21,7 +21,7 @@ abbrev pub pairBytes : (n : ℕ) → Matrix → (rows : ℕ) → List ℕ
 pairBytes n M rows = blocks rows (λ i. blocks n (λ j. bytes4 (M .b i j) ++ bytes4 (M .y i j)))
 
 module _ (job : Job) (g : Parameters) where
-  -- "A pair (b, Y) opens to x and v ... if b = g0^x × g1^v and Y = g1^x.": ballot k's matrix in round m, gone having gone out
+  -- "A pair (b, Y) opens to x and v, .. if b = g0^x × g1^v and Y = g1^x.": ballot k's matrix in round m, gone having gone out
   unfoldable pub jobMatrix : (gone : List ℕ) (m k : ℕ) → Matrix
   jobMatrix gone m k =
       record { b = λ i j. paired g (secret job m k i j) (openedTo job gone k i j); y = λ i j. powMod (g .p) (g .g1) (secret job m k i j) }

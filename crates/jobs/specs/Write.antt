@@ -1,4 +1,4 @@
--- "Where a job stops": the writer's tests, its outcome, and what the output then holds.
+-- Where a job stops: the writer's tests, its outcome, and what the output then holds.
 use Prim.Native.Nat.{ℕ, zero, suc, _*_}
 use mathlib.Core.Bool.{Bool, cond, _&&_}
 use mathlib.Core.List.{List, [], _∷_, _++_}

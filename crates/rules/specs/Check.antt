@@ -1,4 +1,4 @@
--- "Where a board stops": the table of refusals, record by record.
+-- Where a board stops: the table of refusals, record by record.
 use Prim.Native.Nat.{ℕ, zero, suc, _+_, _*_, _-_, _%_}
 use mathlib.Core.Bool.{Bool, cond, _&&_}
 use mathlib.Core.List.{List, [], _∷_, _++_}
@@ -15,7 +15,7 @@ use Rattle.rules.specs.Records.{HD, BA, SH, RT, hasMark, headerLength, r
 use Rattle.rules.specs.Claims.{Matrix, matrixAt, entryClaim, rowClaim, columnClaim, shiftClaim}
 use Rattle.rules.specs.Count.{Standing, start, next, leaves, wins, closes, table}
 
--- "accepted with rounds, order and winner", or "a refusal is its number and the record's number"
+-- accepted, with the rounds, the order of going out and the winner; or "a refusal is its number and the record's number"
 pub data Verdict : Type 0 where
   accepted : (rounds : ℕ) (order : List ℕ) (winner : ℕ) → Verdict
   refused : (number place : ℕ) → Verdict

@@ -1,5 +1,5 @@
--- The second demand as a statement about whole boards: "Accepted if and only if every rule of 01's table, every proof equation and every
--- tally equation holds; else the FIRST broken rule is named." Rules.antt lists the rules, record by record.
+-- The second demand as a statement about whole boards: a board is accepted if and only if every rule of 01's table, every proof equation and
+-- every tally equation holds; else the first broken rule is named. Rules.antt lists the rules, record by record.
 -- Rounds and ballots count from 0 here; a board's header is `header s`.
 use Prim.Native.Nat.{ℕ, zero, suc, _+_, _≤_, _<_}
 use mathlib.Core.Path.{_≡_}
@@ -95,10 +95,10 @@ pub record FirstFails (tests : List Test) (number : ℕ) : Type 0 where
   pub earlier : (i : ℕ) (t : Test) → i < index → getElem? tests i ≡ some t → t .holds ≡ true
 
 pub record SecondDemand (hash : List ℕ → List ℕ) : Type 0 where
-  -- "Accepted if and only if every rule of 01's table, every proof equation and every tally equation holds"
+  -- accepted if and only if every rule of 01's table, every proof equation and every tally equation holds
   pub accepted-iff : (s : List ℕ) (rounds : ℕ) (order : List ℕ) (winner : ℕ) →
       (checkBoard hash s ≡ accepted rounds order winner) ↔ EveryRuleHolds hash s rounds order winner
-  -- "else the FIRST broken rule is named"
+  -- else the first broken rule is named
   pub refused-iff : (s : List ℕ) (number place : ℕ) → (checkBoard hash s ≡ refused number place) ↔ FirstBroken hash s number place
   -- of every board one or the other holds
   pub either : (s : List ℕ) →

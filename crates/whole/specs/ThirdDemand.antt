@@ -32,7 +32,7 @@ pub record IsPlain (s : List ℕ) (rounds : ℕ) (order : List ℕ) (winner : �
   pub sums : (m : ℕ) → m < rounds → sumBelow (header s .n) (countField s (header s) m) ≡ header s .K
 
 module _ (hash : List ℕ → List ℕ) where
-  -- "from 1 to 1,000 rankings of 2 to 8 processes, in any valid group with any valid draws":
+  -- from 1 to 1,000 rankings of 2 to 8 processes, in any valid group with any valid draws:
   -- "A group with its label and counter is valid if neither 4 nor 5 is due; draws are valid if 14 is not due."
   pub record Valid (job : Job) : Type 0 where
     pub sized : sizes (job .n) (job .K) ≡ true
@@ -52,10 +52,10 @@ module _ (hash : List ℕ → List ℕ) where
     pub replies : (room : ℕ) → length s ≤ room → writeOutcome hash job room ≡ boardWritten (length s) (plain .rounds) (plain .order) (plain .winner)
 
   pub record ThirdDemand : Type 0 where
-    -- "an accepted board whose matrices open to rankings and struck rows has the plain instant-runoff count's rounds, counts, order and winner"
+    -- an accepted board whose matrices open to rankings and struck rows has the plain count's rounds, counts, order and winner
     pub accepted-boards : (s : List ℕ) (rounds : ℕ) (order : List ℕ) (winner : ℕ) (rankings : ℕ → List ℕ) →
         checkBoard hash s ≡ accepted rounds order winner →
         Opens s rankings rounds →
         IsPlain s rounds order winner (plainCount (header s .n) (table (header s .K) rankings))
-    -- "every board written by the rules from 1 to 1,000 rankings of 2 to 8 processes, in any valid group with any valid draws, is accepted with that count"
+    -- every board written by the rules from 1 to 1,000 rankings of 2 to 8 processes, in any valid group with any valid draws, is accepted with that count
     pub written-boards : (job : Job) → Valid job → IsWritten job (board hash job) (plainResult job)

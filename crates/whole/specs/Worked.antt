@@ -19,7 +19,7 @@ use Rattle.whole.specs.ThirdDemand.{Valid}
 abbrev pub small : Parameters
 small = record { p = 23; q = 11; g0 = 2; g1 = 3 }
 
--- "x and v give (b, y)", and that pair opens to them
+-- x and v give the pair (b, y), and it opens to them
 pub record Pair (x v b y : ℕ) : Type 0 where
   pub first : paired small x v ≡ b
   pub second : powMod 23 3 x ≡ y

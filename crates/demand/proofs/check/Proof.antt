@@ -5,7 +5,7 @@ use Rattle.demand.proofs.check.Statement.{statement}
 use Rattle.demand.proofs.check.Tie as tie
 
 returns : tie.Need-returns
-returns c = accepted-is-plain _ _ (c .check .ensures .0)
+returns c = (c .check .ensures, accepted-is-plain _ _ (c .check .ensures .0))
 
 pub check-spec : {M : Type 1} → statement M
 check-spec = tie.close (tie.spec (λ c κs. search needs) returns)
