@@ -7,13 +7,6 @@ ghost use lib.ListN.{length};
 ghost use Rattle.proving.specs.Plans.{Spread};
 ghost use Rattle.ballots.specs.Parts.{sumBut, Witnessed};
 
-fn rest_of(x: u64, q: u32) -> Exponent
-    requires { ⌜ 0 < q ⌝ }
-    ensures { λ r. ⌜ r .0 ≡ x % q ⌝ }
-{
-    Exponent((x % (q as u64)) as u32)
-}
-
 // The sum of draws at a stride but for one, modulo q.
 pub fn sum_of(q: u32, draws: &[u32], at: usize, stride: usize, count: usize, but: usize) -> Exponent
     requires { ⌜ (0 < q) × (count ≤ 1000) × (stride ≤ 10000) × (at < 2 ^ 40) × (at + stride * (count - 1) < length (now draws)) ⌝ }
@@ -25,7 +18,7 @@ pub fn sum_of(q: u32, draws: &[u32], at: usize, stride: usize, count: usize, but
             sum += draws[at + stride * i] as u64;
         }
     }
-    rest_of(sum, q)
+    group::reduce_exp(sum, q)
 }
 
 // How much of one secret is left past another, modulo q.

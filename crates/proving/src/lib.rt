@@ -1,11 +1,10 @@
 // A proof made in its place on the board by one who knows the witness of one branch: the commitments are fed to the hash as they arise, and the
 // true branch's challenge and responses are written last.
-use group::Exponent;
 use sha256::Hasher;
 use statements::Setup;
 use statements::claims::Claim;
 ghost use mathlib.Core.Path.{_≡_};
-ghost use Prim.Native.Nat.{_+_, _*_, _%_, _^_, _≤_, _<_};
+ghost use Prim.Native.Nat.{_+_, _*_, _^_, _≤_, _<_};
 ghost use lib.ListN.{length};
 ghost use Rattle.group.specs.Elements.{parametersOf};
 ghost use Rattle.statements.specs.Values.{Ready};
@@ -39,13 +38,6 @@ fn against(q: u32, plan: Plan, draws: &[u32]) -> u64
         }
     }
     sum
-}
-
-fn rest_of(x: u64, q: u32) -> Exponent
-    requires { ⌜ 0 < q ⌝ }
-    ensures { λ r. ⌜ r .0 ≡ x % q ⌝ }
-{
-    Exponent((x % (q as u64)) as u32)
 }
 
 // Every branch as it is before the known one's challenge is known; the commitments are fed to the hash after the label.
@@ -111,8 +103,8 @@ pub fn make(
     let h = commit(out, label, g, page, inverses, n, claim, plan, draws);
     let sum = against(q, plan, draws);
     let digest = h.finish();
-    let whole = statements::challenge(&digest, q);
-    let e = rest_of((whole.0 as u64) + sum, q);
+    let whole = fields::challenge(&digest, q);
+    let e = group::reduce_exp((whole.0 as u64) + sum, q);
     let at = branch::branch_draws(plan, known);
     let place = known * (4 + 12 * statements);
     branch::answer(&mut out[place..], q, e, statements, witness, draws, at);

@@ -46,7 +46,7 @@ returns c =
     let digest = w .before .before .before .before .before .finish .ensures _ (all .fed) in
     let sum = w .before .before .before .before .before .before .against .ensures .0 in
     let e = challenge-is (now (f .label)) g cl (f .plan) (now (f .witness)) (now (f .draws)) _ _ _ _ digest
-    (w .before .before .before .challenge .ensures) sum (w .before .rest-of .ensures) in
+    (w .before .before .before .challenge .ensures) sum (w .before .reduce-exp .ensures) in
     joined (now (f .label)) g cl (f .plan) (now (f .witness)) (now (f .draws)) (s .pre .0 .1 .drawn .known) (now (f .out)) _ _ _ _ _ refl e
     (w .branch-draws .ensures) (all .wrote) (c .before .before .answer .ensures)
 
