@@ -1,5 +1,6 @@
 // A proof made in its place on the board by one who knows the witness of one branch: the commitments are fed to the hash as they arise, and the
 // true branch's challenge and responses are written last.
+use group::Exponent;
 use sha256::Hasher;
 use statements::Setup;
 use statements::claims::Claim;
@@ -80,7 +81,7 @@ fn commit(
 }
 
 // A whole proof of a claim about matrices of n columns that stand on a page. What the known branch's statements are does not matter: it is
-// made from their witnesses.
+// made from their witnesses, which stand first among the 64.
 pub fn make(
     out: &mut [u8],
     label: &[u8],
@@ -90,12 +91,12 @@ pub fn make(
     n: usize,
     claim: Claim,
     plan: Plan,
-    witness: &[u32],
+    witness: [Exponent; 64],
     draws: &[u32],
 )
     requires { ⌜ Ready g × Planned (parametersOf (g .group)) (now page) (now inverses) n claim plan (now draws) ⌝ }
-    requires { ⌜ (plan .branches * (4 + 12 * plan .statements) ≤ length (now out)) × (plan .statements ≤ length (now witness)) ⌝ }
-    ensures { λ _. ⌜ now (out .exit) ≡ written (proofOf (now (label .entry)) (parametersOf (g .group)) (claimOf (now (page .entry)) (parametersOf (g .group)) n claim) plan (now (witness .entry)) (now (draws .entry))) (now (out .entry)) ⌝ }
+    requires { ⌜ (plan .branches * (4 + 12 * plan .statements) ≤ length (now out)) × (plan .statements ≤ 64) ⌝ }
+    ensures { λ _. ⌜ now (out .exit) ≡ written (proofOf (now (label .entry)) (parametersOf (g .group)) (claimOf (now (page .entry)) (parametersOf (g .group)) n claim) plan witness (now (draws .entry))) (now (out .entry)) ⌝ }
 {
     let statements = plan.statements;
     let known = plan.known;
