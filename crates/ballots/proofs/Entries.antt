@@ -1,12 +1,13 @@
 -- The proofs of a ballot in the terms of its matrix. Assumes nothing.
 use Prim.Native.Nat.{ℕ, zero, suc, _+_, _*_, _-_, _/_, _%_, _≤_, _<_}
 use mathlib.Core.Path.{_≡_, refl, ap, _∙_}
-use mathlib.Core.List.{List, [], _∷_}
+use mathlib.Core.List.{List}
 use native.Mathlib.Nat.{div-add-mod', mod-mod, mod-lt, div-lt-iff-lt-mul}
 use native.Mathlib.Omega.{arith}
-use lib.ListN.{length, getD}
+use lib.ListN.{length, getD, replicate}
 use Rattle.sha256.specs.Message.{sha256}
 use Rattle.group.specs.Elements.{Parameters}
+use Rattle.group.specs.declared.Exponent.{Exponent}
 use Rattle.rules.specs.Proofs.{Statement}
 use Rattle.rules.specs.Claims.{Matrix, matrixAt}
 use Rattle.statements.specs.declared.claims.Claim.{Claim}
@@ -14,7 +15,7 @@ use Rattle.statements.specs.declared.claims.Claim.the-variants.{Entry}
 use Rattle.statements.specs.Claims.{claimOf, Within}
 use Rattle.whole.proofs.Complete.Matrices.{SameMatrix, entry-same}
 use Rattle.proving.specs.declared.Plan.{Plan}
-use Rattle.proving.specs.Plans.{Spread, Drawn, Planned, proofOf}
+use Rattle.proving.specs.Plans.{Spread, Drawn, Planned, witnessAt, proofOf}
 use Rattle.proving.proofs.Same.{proof-same, length-proof}
 use Rattle.ballots.specs.Parts.{matrixOf, opened, lineProof, entryOf, lineOf}
 
@@ -51,20 +52,23 @@ unfolding Within
 planned-entry g page inverses n i j draws v from hv hi hj long w =
     record { drawn = drawn-of (g .q) draws 2 1 v from 3 w refl (omega arith) hv (omega arith); ready = λ l k h m e. (hi, hj, omega arith) }
 
--- the one witness
-pub one : (x i : ℕ) → i < 1 → getD (x ∷ []) i 0 ≡ x
+-- the witness of the one statement stands in every place
+abbrev pub alone : Exponent → List Exponent
+alone x = replicate 64 x
+
+one : (x : Exponent) (i : ℕ) → i < 1 → witnessAt (alone x) i ≡ x .0
 one x zero h = refl
 one x (suc i) h = absurd (omega arith)
 
-pub line-is : (label : List ℕ) (g : Parameters) (claim : ℕ → ℕ → Statement) (said : Statement) (w x : ℕ) (draws : List ℕ) (from : ℕ) → w ≡ x % g .q →
-    proofOf label g claim (planOf 1 1 0 from) (w ∷ []) draws ≡ lineProof label g said x draws from
+pub line-is : (label : List ℕ) (g : Parameters) (claim : ℕ → ℕ → Statement) (said : Statement) (w : Exponent) (x : ℕ) (draws : List ℕ) (from : ℕ) → w .0 ≡ x % g .q →
+    proofOf label g claim (planOf 1 1 0 from) (alone w) draws ≡ lineProof label g said x draws from
 line-is label g claim said w x draws from e =
     proof-same sha256 label g (λ d. getD draws d 0) 1 1 0 from claim (λ _ _. said) _ _ (λ l i h k n. absurd (n (omega arith)))
     (λ i h. ap (λ (a : ℕ). a % g .q) (one w i h ∙ e) ∙ mod-mod x (g .q))
 
-pub entry-is : (label : List ℕ) (g : Parameters) (n : ℕ) (list : ℕ → ℕ) (page draws : List ℕ) (from c v x : ℕ) → 0 < n → c < n * n →
-    SameMatrix n n (matrixAt page n 0) (matrixOf g n list draws from) → v ≡ opened list (c / n) (c % n) → x ≡ getD draws (from + c) 0 →
-    proofOf label g (claimOf page g n (Entry 0 (c / n) (c % n))) (planOf 2 1 v (from + n * n + 3 * c)) (x ∷ []) draws ≡ entryOf label g n list draws from (c / n) (c % n)
+pub entry-is : (label : List ℕ) (g : Parameters) (n : ℕ) (list : ℕ → ℕ) (page draws : List ℕ) (from c v : ℕ) (x : Exponent) → 0 < n → c < n * n →
+    SameMatrix n n (matrixAt page n 0) (matrixOf g n list draws from) → v ≡ opened list (c / n) (c % n) → x .0 ≡ getD draws (from + c) 0 →
+    proofOf label g (claimOf page g n (Entry 0 (c / n) (c % n))) (planOf 2 1 v (from + n * n + 3 * c)) (alone x) draws ≡ entryOf label g n list draws from (c / n) (c % n)
 unfolding entryOf claimOf
 entry-is label g n list page draws from c v x some low same ev ex =
     rw (div-add-mod' c n, ← ev, ← ex)

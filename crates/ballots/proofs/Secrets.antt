@@ -1,6 +1,6 @@
 -- Sums of secrets, one more at a time, and the witnesses of a shift. Assumes nothing.
 use Prim.Native.Nat.{ℕ, suc, _+_, _*_, _-_, _/_, _%_, _≤_, _<_}
-use mathlib.Core.Path.{_≡_, _∙_}
+use mathlib.Core.Path.{_≡_, ap, _∙_}
 use mathlib.Core.Bool.{cond}
 use mathlib.Core.Logic.{⊎-elim}
 use mathlib.Core.List.{List}
@@ -13,6 +13,7 @@ use lib.ListN.{length, getD, set, length-set}
 use lib.Seq.{getD-set-same, getD-set-other}
 use Rattle.numbers.specs.Below.{sumBelow}
 use Rattle.numbers.proofs.Sums.{sum-same}
+use Rattle.group.specs.declared.Exponent.{Exponent}
 use Rattle.rules.specs.Claims.{source}
 use Rattle.statements.specs.Lines.{lineStart, lineStride}
 use Rattle.statements.proofs.Lines.{by-row, by-column, row-or-column, row-below, row-cell, column-cell}
@@ -62,18 +63,18 @@ module _ (q n : ℕ) (draws : List ℕ) (old new a l : ℕ) where
   unfolding witnessOf
   witness-later c x e = let two : 2 + c ≡ suc (suc c) = omega arith in rw (two, e, mod-mod, div-add-mod' c n)
 
-  pub witnessed-more : (c x : ℕ) (s : List ℕ) → Witnessed q n draws old new a l c s → c < 64 → x % q ≡ witnessOf q n draws old new a l c % q →
+  pub witnessed-more : (c : ℕ) (x : Exponent) (s : List Exponent) → Witnessed q n draws old new a l c s → c < 64 → x .0 % q ≡ witnessOf q n draws old new a l c % q →
       Witnessed q n draws old new a l (c + 1) (set s c x)
   witnessed-more c x s w h e =
       record {
         long = length-set s c x ∙ w .long;
         each = λ i k.
-            ⊎-elim (λ (m : i ≡ c). rw (m, getD-set-same s c x 0 (omega (arith, w .long))) e)
-            (λ (m : i < c). rw (getD-set-other s c i x 0 (λ z. omega arith)) (w .each i m))
+            ⊎-elim (λ (m : i ≡ c). rw m (ap (λ (y : Exponent). y .0 % q) (getD-set-same s c x _ (omega (arith, w .long))) ∙ e))
+            (λ (m : i < c). ap (λ (y : Exponent). y .0 % q) (getD-set-other s c i x _ (λ z. omega arith)) ∙ w .each i m)
             (eq-or-lt-of-le {n = i} {m = c} (omega arith));
       }
 
-  pub witnessed-none : (s : List ℕ) → length s ≡ 64 → Witnessed q n draws old new a l 0 s
+  pub witnessed-none : (s : List Exponent) → length s ≡ 64 → Witnessed q n draws old new a l 0 s
   witnessed-none s e = record { long = e; each = λ i h. absurd (omega arith) }
 
 -- the pair before that a new pair comes from is within the matrix before

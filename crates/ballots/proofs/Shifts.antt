@@ -7,6 +7,7 @@ use native.Mathlib.Omega.{arith}
 use lib.ListN.{length, getD}
 use Rattle.sha256.specs.Message.{sha256}
 use Rattle.group.specs.Elements.{Parameters}
+use Rattle.group.specs.declared.Exponent.{Exponent}
 use Rattle.rules.proofs.Sizes.{few-pairs}
 use Rattle.rules.specs.Bytes.{bytes2}
 use Rattle.rules.specs.Records.{SH}
@@ -57,7 +58,7 @@ module _ (g : Parameters) (s : Shift) (draws : List ℕ) (w : Shifting (g .p) (g
             };
       }
 
-  pub shift-proof-is : (label page t : List ℕ) → SameMatrix (s .rows + 1) (s .n) (matrixAt page (s .n) 0) (oldMatrix g s draws) →
+  pub shift-proof-is : (label page : List ℕ) (t : List Exponent) → SameMatrix (s .rows + 1) (s .n) (matrixAt page (s .n) 0) (oldMatrix g s draws) →
       SameMatrix (s .rows) (s .n) (matrixAt page (s .n) 512) (newMatrix g s draws) →
       Witnessed (g .q) (s .n) draws (s .old) (s .new) (s .column) (s .struck) (2 + s .rows * s .n) t →
       proofOf label g (claimOf page g (s .n) (Shifted 0 512 (s .rows) (s .column))) (planOf (s .rows + 1) (2 + s .rows * s .n) (s .struck) (s .new + s .rows * s .n)) t draws ≡ shiftProofOf label g s draws

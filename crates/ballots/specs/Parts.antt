@@ -10,12 +10,13 @@ use Rattle.group.specs.Arithmetic.{powMod}
 use Rattle.sha256.specs.Message.{sha256}
 use Rattle.rules.specs.Bytes.{bytes2}
 use Rattle.group.specs.Elements.{Parameters}
+use Rattle.group.specs.declared.Exponent.{Exponent}
 use Rattle.rules.specs.Group.{paired}
 use Rattle.rules.specs.Proofs.{Statement}
 use Rattle.rules.specs.Claims.{Matrix, entryClaim, rowClaim, columnClaim, shiftClaim, source}
 use Rattle.statements.specs.Lines.{byLine}
 use Rattle.jobs.specs.Prover.{Prover, proofBytes}
-use Rattle.proving.specs.Plans.{Spread}
+use Rattle.proving.specs.Plans.{Spread, witnessAt}
 use Rattle.jobs.specs.Board.{pairBytes}
 use Rattle.whole.proofs.Complete.Places.{Stands}
 use Rattle.rules.specs.Records.{BA, SH}
@@ -96,9 +97,9 @@ witnessOf q n draws old new a l (suc zero) = sumBelow n (λ j. cond (eqb j a) 0 
 witnessOf q n draws old new a l (suc (suc i)) = drawn draws new n (i / n) (i % n) + (q - drawn draws old n (source l (i / n)) (i % n))
 
 -- the first so many witnesses, modulo q
-pub record Witnessed (q n : ℕ) (draws : List ℕ) (old new a l count : ℕ) (s : List ℕ) : Type 0 where
+pub record Witnessed (q n : ℕ) (draws : List ℕ) (old new a l count : ℕ) (s : List Exponent) : Type 0 where
   pub long : length s ≡ 64
-  pub each : (i : ℕ) → i < count → getD s i 0 % q ≡ witnessOf q n draws old new a l i % q
+  pub each : (i : ℕ) → i < count → witnessAt s i % q ≡ witnessOf q n draws old new a l i % q
 
 -- what a shift needs of its draws
 pub record Shifting (p q : ℕ) (s : Shift) (draws : List ℕ) : Type 0 where

@@ -1,6 +1,7 @@
 // A ballot's first record.
 use crate::lines;
 use crate::pairs;
+use group::Exponent;
 use group::Group;
 use proving::Plan;
 use statements::Setup;
@@ -55,9 +56,10 @@ fn write_entry(
         known: v as usize,
         from: from + n * n + 3 * c,
     };
-    let witness = [draws[at]];
-    let none = [0u32; 1];
-    proving::make(out, label, g, page, &none, n, claim, plan, &witness, draws);
+    // the witness of the one statement, in every place
+    let w = [Exponent(draws[at]); 64];
+    let no_inverses = [0u32; 0];
+    proving::make(out, label, g, page, &no_inverses, n, claim, plan, w, draws);
 }
 
 fn write_entries(

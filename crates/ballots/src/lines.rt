@@ -32,9 +32,10 @@ fn write_line(
 {
     let line = claims::line_of(n, t);
     let first = from + line.start;
-    let w = sums::sum_of(g.group.q, draws, first, line.stride, n, n);
-    let none = [0u32; 1];
-    let witness = [w.0];
+    let sum = sums::sum_of(g.group.q, draws, first, line.stride, n, n);
+    // the witness of the one statement, in every place
+    let w = [sum; 64];
+    let no_inverses = [0u32; 0];
     let plan = Plan {
         branches: 1,
         statements: 1,
@@ -42,7 +43,7 @@ fn write_line(
         from: from + 4 * (n * n) + t,
     };
     let claim = Claim::Line { at: 0, t };
-    proving::make(out, label, g, page, &none, n, claim, plan, &witness, draws);
+    proving::make(out, label, g, page, &no_inverses, n, claim, plan, w, draws);
 }
 
 pub fn write_lines(

@@ -66,7 +66,7 @@ fn write_shift_proof(out: &mut [u8], label: &[u8], g: Setup, s: Shift, page: &[u
         known: s.struck,
         from: s.new + rows * n,
     };
-    proving::make(out, label, g, page, &inverses, n, claim, plan, &w, draws);
+    proving::make(out, label, g, page, &inverses, n, claim, plan, w, draws);
 }
 
 pub fn write_shift(out: &mut [u8], label: &[u8], g: Setup, s: Shift, draws: &[u32])

@@ -7,13 +7,6 @@ ghost use lib.ListN.{length};
 ghost use Rattle.proving.specs.Plans.{Spread};
 ghost use Rattle.ballots.specs.Parts.{sumBut, Witnessed};
 
-fn rest_of(x: u64, q: u32) -> Exponent
-    requires { ⌜ 0 < q ⌝ }
-    ensures { λ r. ⌜ r .0 ≡ x % q ⌝ }
-{
-    Exponent((x % (q as u64)) as u32)
-}
-
 // The sum of draws at a stride but for one, modulo q.
 pub fn sum_of(q: u32, draws: &[u32], at: usize, stride: usize, count: usize, but: usize) -> Exponent
     requires { ⌜ (0 < q) × (count ≤ 1000) × (stride ≤ 10000) × (at < 2 ^ 40) × (at + stride * (count - 1) < length (now draws)) ⌝ }
@@ -25,7 +18,7 @@ pub fn sum_of(q: u32, draws: &[u32], at: usize, stride: usize, count: usize, but
             sum += draws[at + stride * i] as u64;
         }
     }
-    rest_of(sum, q)
+    group::reduce_exp(sum, q)
 }
 
 // How much of one secret is left past another, modulo q.
@@ -46,23 +39,21 @@ pub fn witnesses(
     draws: &[u32],
     old: usize,
     new: usize,
-) -> [u32; 64]
+) -> [Exponent; 64]
     requires { ⌜ (0 < n) × (n ≤ 8) × (rows < 8) × (a < n) × (l ≤ rows) ⌝ }
     requires { ⌜ Spread q (now draws) old ((rows + 1) * n) × Spread q (now draws) new (rows * n) ⌝ }
     ensures { λ r. ⌜ Witnessed q n (now (draws .entry)) old new a l (2 + rows * n) r ⌝ }
 {
     let count = rows * n;
     let row = old + l * n;
-    let mut w = [0u32; 64];
-    w[0] = draws[row + a];
-    let others = sum_of(q, draws, row, 1, n, a);
-    w[1] = others.0;
+    let mut w = [Exponent(0); 64];
+    w[0] = Exponent(draws[row + a]);
+    w[1] = sum_of(q, draws, row, 1, n, a);
     for c in 0..count {
         let s = claims::source_of(n, l, c);
         let x = draws[new + c];
         let y = draws[old + s];
-        let r = past(q, Exponent(x), Exponent(y));
-        w[2 + c] = r.0;
+        w[2 + c] = past(q, Exponent(x), Exponent(y));
     }
     w
 }

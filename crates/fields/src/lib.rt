@@ -1,11 +1,11 @@
-// The fields of a record: numbers of 2 and 4 bytes, high byte first; elements and exponents, tested as they are read; products of words.
+// The fields of a record: numbers of 2 and 4 bytes, high byte first; elements and exponents, tested as they are read; products of words; a digest as a challenge and as an element.
 use group::Element;
 use group::Exponent;
 ghost use mathlib.Core.Path.{_≡_};
 ghost use Prim.Native.Nat.{ℕ, _+_, _*_, _%_, _≤_, _<_};
 ghost use lib.ListN.{length};
 ghost use Rattle.numbers.specs.Below.{prodBelow};
-ghost use Rattle.rules.specs.Bytes.{half, word};
+ghost use Rattle.rules.specs.Bytes.{half, word, long};
 ghost use Rattle.rules.specs.Claims.{besides};
 ghost use Rattle.fields.specs.Answers.{elementAt, exponentAt};
 
@@ -79,6 +79,29 @@ pub fn as_exponent(s: &[u8], at: usize) -> Exponent
     ensures { λ r. ⌜ r .0 ≡ word (now (s .entry)) at ⌝ }
 {
     Exponent(word(s, at))
+}
+
+// The first 8 bytes of a digest as a number, of no modulus yet.
+fn long(digest: &[u8; 32]) -> u64
+    ensures { λ r. ⌜ r ≡ long (now (digest .entry)) 0 ⌝ }
+{
+    (word(digest, 0) as u64) * 4294967296 + (word(digest, 4) as u64)
+}
+
+// A digest modulo q, a proof's challenge.
+pub fn challenge(digest: &[u8; 32], q: u32) -> Exponent
+    requires { ⌜ 0 < q ⌝ }
+    ensures { λ r. ⌜ r .0 ≡ long (now (digest .entry)) 0 % q ⌝ }
+{
+    group::reduce_exp(long(digest), q)
+}
+
+// A digest modulo p, of which g1 is made.
+pub fn hashed_element(digest: &[u8; 32], p: u32) -> Element
+    requires { ⌜ 0 < p ⌝ }
+    ensures { λ r. ⌜ r .0 ≡ long (now (digest .entry)) 0 % p ⌝ }
+{
+    group::reduce(long(digest), p)
 }
 
 // The product modulo p of count words, stride bytes apart, but for the one numbered out.

@@ -70,7 +70,7 @@ pub fn derived(label: &[u8], p: u32, q: u32, g0: Element, counter: u8) -> Elemen
 {
     let end = tail(g0, counter);
     let digest = Hasher::new().update(label).update(&end).finish();
-    let base = statements::hashed_element(&digest, p);
+    let base = fields::hashed_element(&digest, p);
     group::pow(p, base, Exponent((p - 1) / q))
 }
 

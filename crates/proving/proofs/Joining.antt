@@ -18,6 +18,7 @@ use Rattle.sha256.specs.declared.Hasher.{Hasher}
 use Rattle.sha256.specs.Message.{sha256}
 use Rattle.rules.specs.Bytes.{bytes4, long, part}
 use Rattle.group.specs.Elements.{Parameters}
+use Rattle.group.specs.declared.Exponent.{Exponent}
 use Rattle.rules.specs.Proofs.{Statement}
 use Rattle.jobs.specs.Prover.{Prover, committed, commitment, challengeOf, responseOf, wholeChallenge, trueChallenge, proofBytes}
 use Rattle.output.specs.Written.{written}
@@ -80,7 +81,7 @@ module _ (g : Parameters) (claim : ℕ → ℕ → Statement) (plan : Plan) (dra
       more (blocks l held) (held l) o out x a (length-blocks l (4 + 12 * plan .statements) held (λ l h. length-held l) ∙ sym ea) eo (b .wrote)
       ∙ rw (blocks-more held l)
 
-module _ (label : List ℕ) (g : Parameters) (claim : ℕ → ℕ → Statement) (plan : Plan) (witness draws : List ℕ) where
+module _ (label : List ℕ) (g : Parameters) (claim : ℕ → ℕ → Statement) (plan : Plan) (witness : List Exponent) (draws : List ℕ) where
   abbrev pr : Prover
   pr = proverOf claim plan witness draws
 

@@ -9,6 +9,7 @@ use Rattle.numbers.specs.Below.{sumBelow, blocks}
 use Rattle.group.specs.Arithmetic.{mulMod, powMod}
 use Rattle.rules.specs.Bytes.{bytes4}
 use Rattle.group.specs.Elements.{Parameters}
+use Rattle.group.specs.declared.Exponent.{Exponent}
 use Rattle.rules.specs.Proofs.{Statement}
 use Rattle.jobs.specs.Prover.{Prover, proofBytes}
 use Rattle.sha256.specs.Message.{sha256}
@@ -57,9 +58,13 @@ pub record Branched (e S : ℕ) (t : ℕ → List ℕ) (r : ℕ → ℕ) (before
   pub wrote : after ≡ written (branchOf e S t r) before
   pub fed : (m : List ℕ) → Fed h m → Fed k (m ++ blocks S t)
 
+-- the i-th witness, as a number
+abbrev pub witnessAt : (witness : List Exponent) → ℕ → ℕ
+witnessAt witness i = getD witness i (record { 0 = 0 }) .0
+
 -- the responses of the known branch under a challenge
-abbrev pub answers : (q e : ℕ) (witness draws : List ℕ) (at : ℕ) → ℕ → ℕ
-answers q e witness draws at i = (getD draws (at + i) 0 + e * getD witness i 0) % q
+abbrev pub answers : (q e : ℕ) (witness : List Exponent) (draws : List ℕ) (at : ℕ) → ℕ → ℕ
+answers q e witness draws at i = (getD draws (at + i) 0 + e * witnessAt witness i) % q
 
 -- where a branch's draws start
 abbrev pub drawsOf : Plan → ℕ → ℕ
@@ -103,19 +108,19 @@ unfoldable pub againstOf : (q : ℕ) → Plan → (draws : List ℕ) → ℕ →
 againstOf q plan draws n = sumBelow n (λ l. cond (eqb l (plan .known)) 0 (q - getD draws (drawsOf plan l) 0))
 
 -- what the rules say of the maker of a proof under a plan
-abbrev pub proverOf : (ℕ → ℕ → Statement) → Plan → (witness draws : List ℕ) → Prover
+abbrev pub proverOf : (ℕ → ℕ → Statement) → Plan → (witness : List Exponent) (draws : List ℕ) → Prover
 proverOf claim plan witness draws =
     record {
       branches = plan .branches;
       statements = plan .statements;
       claim = claim;
       known = plan .known;
-      witness = λ i. getD witness i 0;
+      witness = witnessAt witness;
       draw = λ d. getD draws d 0;
       from = plan .from;
     }
 
-abbrev pub proofOf : (label : List ℕ) → Parameters → (ℕ → ℕ → Statement) → Plan → (witness draws : List ℕ) → List ℕ
+abbrev pub proofOf : (label : List ℕ) → Parameters → (ℕ → ℕ → Statement) → Plan → (witness : List Exponent) (draws : List ℕ) → List ℕ
 proofOf label g claim plan witness draws = proofBytes g (proverOf claim plan witness draws) sha256 label
 
 -- so many draws from a place on are there, and below q

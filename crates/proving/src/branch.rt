@@ -137,18 +137,18 @@ pub fn answer(
     q: u32,
     e: Exponent,
     statements: usize,
-    witness: &[u32],
+    witness: [Exponent; 64],
     draws: &[u32],
     at: usize,
 )
-    requires { ⌜ (0 < q) × (statements < 100) × (4 + 12 * statements ≤ length (now out)) ⌝ }
-    requires { ⌜ (at + statements ≤ length (now draws)) × (statements ≤ length (now witness)) ⌝ }
-    ensures { λ _. ⌜ now (out .exit) ≡ written (branchOf (e .0) statements (λ i. part (now (out .entry)) (4 + 12 * i) 8) (answers q (e .0) (now (witness .entry)) (now (draws .entry)) at)) (now (out .entry)) ⌝ }
+    requires { ⌜ (0 < q) × (statements ≤ 64) × (4 + 12 * statements ≤ length (now out)) ⌝ }
+    requires { ⌜ at + statements ≤ length (now draws) ⌝ }
+    ensures { λ _. ⌜ now (out .exit) ≡ written (branchOf (e .0) statements (λ i. part (now (out .entry)) (4 + 12 * i) 8) (answers q (e .0) witness (now (draws .entry)) at)) (now (out .entry)) ⌝ }
 {
     output::put_word(out, e.0);
     for i in 0..statements {
         let place = 12 + 12 * i;
-        let r = response(q, e, Exponent(draws[at + i]), Exponent(witness[i]));
+        let r = response(q, e, Exponent(draws[at + i]), witness[i]);
         output::put_word(&mut out[place..], r.0);
     }
 }

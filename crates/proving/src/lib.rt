@@ -5,7 +5,7 @@ use sha256::Hasher;
 use statements::Setup;
 use statements::claims::Claim;
 ghost use mathlib.Core.Path.{_≡_};
-ghost use Prim.Native.Nat.{_+_, _*_, _%_, _^_, _≤_, _<_};
+ghost use Prim.Native.Nat.{_+_, _*_, _^_, _≤_, _<_};
 ghost use lib.ListN.{length};
 ghost use Rattle.group.specs.Elements.{parametersOf};
 ghost use Rattle.statements.specs.Values.{Ready};
@@ -39,13 +39,6 @@ fn against(q: u32, plan: Plan, draws: &[u32]) -> u64
         }
     }
     sum
-}
-
-fn rest_of(x: u64, q: u32) -> Exponent
-    requires { ⌜ 0 < q ⌝ }
-    ensures { λ r. ⌜ r .0 ≡ x % q ⌝ }
-{
-    Exponent((x % (q as u64)) as u32)
 }
 
 // Every branch as it is before the known one's challenge is known; the commitments are fed to the hash after the label.
@@ -88,7 +81,7 @@ fn commit(
 }
 
 // A whole proof of a claim about matrices of n columns that stand on a page. What the known branch's statements are does not matter: it is
-// made from their witnesses.
+// made from their witnesses, which stand first among the 64.
 pub fn make(
     out: &mut [u8],
     label: &[u8],
@@ -98,12 +91,12 @@ pub fn make(
     n: usize,
     claim: Claim,
     plan: Plan,
-    witness: &[u32],
+    witness: [Exponent; 64],
     draws: &[u32],
 )
     requires { ⌜ Ready g × Planned (parametersOf (g .group)) (now page) (now inverses) n claim plan (now draws) ⌝ }
-    requires { ⌜ (plan .branches * (4 + 12 * plan .statements) ≤ length (now out)) × (plan .statements ≤ length (now witness)) ⌝ }
-    ensures { λ _. ⌜ now (out .exit) ≡ written (proofOf (now (label .entry)) (parametersOf (g .group)) (claimOf (now (page .entry)) (parametersOf (g .group)) n claim) plan (now (witness .entry)) (now (draws .entry))) (now (out .entry)) ⌝ }
+    requires { ⌜ (plan .branches * (4 + 12 * plan .statements) ≤ length (now out)) × (plan .statements ≤ 64) ⌝ }
+    ensures { λ _. ⌜ now (out .exit) ≡ written (proofOf (now (label .entry)) (parametersOf (g .group)) (claimOf (now (page .entry)) (parametersOf (g .group)) n claim) plan witness (now (draws .entry))) (now (out .entry)) ⌝ }
 {
     let statements = plan.statements;
     let known = plan.known;
@@ -111,8 +104,8 @@ pub fn make(
     let h = commit(out, label, g, page, inverses, n, claim, plan, draws);
     let sum = against(q, plan, draws);
     let digest = h.finish();
-    let whole = statements::challenge(&digest, q);
-    let e = rest_of((whole.0 as u64) + sum, q);
+    let whole = fields::challenge(&digest, q);
+    let e = group::reduce_exp((whole.0 as u64) + sum, q);
     let at = branch::branch_draws(plan, known);
     let place = known * (4 + 12 * statements);
     branch::answer(&mut out[place..], q, e, statements, witness, draws, at);

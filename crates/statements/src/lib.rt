@@ -4,7 +4,6 @@ use group::Exponent;
 use group::Group;
 ghost use mathlib.Core.Path.{_≡_};
 ghost use Prim.Native.Nat.{_+_, _*_, _-_, _%_, _<_};
-ghost use Rattle.rules.specs.Bytes.{word, long};
 ghost use Rattle.rules.specs.Proofs.{statementHolds};
 ghost use Rattle.statements.specs.Values.{statementOf, Ready};
 
@@ -55,30 +54,4 @@ pub fn statement_holds(
     } else {
         false
     }
-}
-
-// The first 8 bytes of a digest as a number, modulo m.
-fn residue(digest: &[u8; 32], m: u32) -> u32
-    requires { ⌜ 0 < m ⌝ }
-    ensures { λ r. ⌜ r ≡ long (now (digest .entry)) 0 % m ⌝ }
-{
-    let high = fields::word(digest, 0) as u64;
-    let low = fields::word(digest, 4) as u64;
-    ((high * 4294967296 + low) % (m as u64)) as u32
-}
-
-// A proof's challenge.
-pub fn challenge(digest: &[u8; 32], q: u32) -> Exponent
-    requires { ⌜ 0 < q ⌝ }
-    ensures { λ r. ⌜ r .0 ≡ long (now (digest .entry)) 0 % q ⌝ }
-{
-    Exponent(residue(digest, q))
-}
-
-// A digest modulo p, of which g1 is made.
-pub fn hashed_element(digest: &[u8; 32], p: u32) -> Element
-    requires { ⌜ 0 < p ⌝ }
-    ensures { λ r. ⌜ r .0 ≡ long (now (digest .entry)) 0 % p ⌝ }
-{
-    Element(residue(digest, p))
 }

@@ -75,5 +75,5 @@ pub fn proof_holds(
         return false;
     }
     let digest = h.finish();
-    sum.0 == crate::challenge(&digest, g.group.q).0
+    sum.0 == fields::challenge(&digest, g.group.q).0
 }

@@ -12,7 +12,7 @@ use Rattle.proving.proofs.make.Statement.{statement}
 use Rattle.proving.proofs.make.Tie as tie
 
 abbrev start : tie.After-slice-known2 → tie.Start
-start c = c .before .before .before .before .before .before .before .before .before .before
+start c = c .before .before .before .before .before .before .before .before .before
 
 -- where every branch is written
 abbrev held : tie.After-branch-draws → tie.After-slice-known2
@@ -31,8 +31,8 @@ answer-requires : tie.Need-answer-requires
 answer-requires c κs =
     let s = start (held (c .before)) in
     let d = s .pre .0 .1 .drawn in (
-      (d .positive, d .small, simp (length-take, length-drop) (omega (arith, known-within (c .before), held (c .before) .before .before .commit .kept))),
-      (rw (c .before .branch-draws .ensures) (true-fits _ (s .args .plan) (now (s .args .draws)) d (s .args .plan .known) (d .known) refl), s .pre .1 .1),
+      (d .positive, s .pre .1 .1, simp (length-take, length-drop) (omega (arith, known-within (c .before), held (c .before) .before .before .commit .kept))),
+      rw (c .before .branch-draws .ensures) (true-fits _ (s .args .plan) (now (s .args .draws)) d (s .args .plan .known) (d .known) refl),
     )
 
 returns : tie.Need-returns
@@ -45,9 +45,9 @@ returns c =
     let all = held w .before .before .commit .ensures in
     let digest = w .before .before .before .before .before .finish .ensures _ (all .fed) in
     let sum = w .before .before .before .before .before .before .against .ensures .0 in
-    let e = challenge-is (now (f .label)) g cl (f .plan) (now (f .witness)) (now (f .draws)) _ _ _ _ digest
-    (w .before .before .before .challenge .ensures) sum (w .before .rest-of .ensures) in
-    joined (now (f .label)) g cl (f .plan) (now (f .witness)) (now (f .draws)) (s .pre .0 .1 .drawn .known) (now (f .out)) _ _ _ _ _ refl e
+    let e = challenge-is (now (f .label)) g cl (f .plan) (f .witness) (now (f .draws)) _ _ _ _ digest
+    (w .before .before .before .challenge .ensures) sum (w .before .reduce-exp .ensures) in
+    joined (now (f .label)) g cl (f .plan) (f .witness) (now (f .draws)) (s .pre .0 .1 .drawn .known) (now (f .out)) _ _ _ _ _ refl e
     (w .branch-draws .ensures) (all .wrote) (c .before .before .answer .ensures)
 
 pub make-spec : {M : Type 1} → statement M

@@ -23,14 +23,14 @@ opened-requires c κs =
 
 make-requires : tie.Need-make-requires
 make-requires c κs =
-    let s = c .before .before .before .before .before .before .before .before .before in
+    let s = c .before .before .before .before .before .before .before .before in
     let f = s .args in
     let p = s .pre .0 in
     let some : 0 < f .n = omega (arith, p) in (
       (
         p .0,
         planned-entry (parametersOf (f .g .group)) (now (f .page)) _ (f .n) (f .c / f .n) (f .c % f .n) (now (f .draws)) _ _
-            (c .before .before .before .before .opened .ensures .1) (div-lt-iff-lt-mul some .1 (omega (arith, p))) (mod-lt (f .c) some) (omega (arith, p, cells (f .n) (omega (arith, p))))
+            (c .before .before .before .opened .ensures .1) (div-lt-iff-lt-mul some .1 (omega (arith, p))) (mod-lt (f .c) some) (omega (arith, p, cells (f .n) (omega (arith, p))))
             (spread-part (f .g .group .q) (now (f .draws)) (f .from) _ _ 3 (s .pre .1 .0) (omega (arith, p))),
       ),
       omega (arith, p),
@@ -38,14 +38,14 @@ make-requires c κs =
 
 returns : tie.Need-returns
 returns c =
-    let s = c .before .before .before .before .before .before .before .before .before .before .before .before in
+    let s = c .before .before .before .before .before .before .before .before .before .before .before in
     let f = s .args in
     let p = s .pre .0 in
     c .before .before .make .ensures
     ∙ ap (λ (x : List ℕ). written x (now (f .out)))
     (entry-is (now (f .label)) (parametersOf (f .g .group)) (f .n) (λ k. getD (f .list) k 0) (now (f .page)) (now (f .draws)) (f .from) (f .c) _ _ (omega (arith, p)) (omega (arith, p))
     (paged-same (parametersOf (f .g .group)) (f .n) (λ k. getD (f .list) k 0) (now (f .draws)) (f .from) (now (f .page)) 0 (f .n) (p .0 .p-pos) (omega (arith, s .good)) (s .pre .1 .1))
-    (c .before .before .before .before .before .before .before .opened .ensures .0) refl)
+    (c .before .before .before .before .before .before .opened .ensures .0) refl)
 
 pub write-entry-spec : {M : Type 1} → statement M
 write-entry-spec =
@@ -64,7 +64,6 @@ write-entry-spec =
     (λ c. omega (arith, c .before .before .before .before .before .pre .0, c .before .before .before .before .before .pre .1 .0 .near, cells (c .before .before .before .before .before .args .n) (omega (arith, c .before .before .before .before .before .pre .0))))
     (λ c. omega (arith, c .before .before .before .before .before .pre .0, cells (c .before .before .before .before .before .args .n) (omega (arith, c .before .before .before .before .before .pre .0))))
     (λ c. omega (arith, c .before .before .before .before .before .before .pre .0, c .before .before .before .before .before .before .pre .1 .0 .enough))
-    (λ c. search needs)
     (λ c. search needs)
     make-requires
     (λ c. search needs)

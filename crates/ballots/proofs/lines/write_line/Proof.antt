@@ -37,7 +37,7 @@ sum-of-requires c κs =
 
 make-requires : tie.Need-make-requires
 make-requires c κs =
-    let s = c .before .before .before .before .before .before .before .before .before .before in
+    let s = c .before .before .before .before .before .before .before .before .before in
     let f = s .args in
     let p = s .pre .0 in (
       (
@@ -50,14 +50,14 @@ make-requires c κs =
 returns : tie.Need-returns
 unfolding lineOf
 returns c =
-    let f = c .before .before .before .before .before .before .before .before .before .before .before .before .before .args in
-    let line = c .before .before .before .before .before .before .before .before .line-of in
+    let f = c .before .before .before .before .before .before .before .before .before .before .before .before .args in
+    let line = c .before .before .before .before .before .before .before .line-of in
     let g = parametersOf (f .g .group) in
     λ M.
     c .before .before .make .ensures
     ∙ ap (λ (w : List ℕ). written w (now (f .out)))
     (line-is (now (f .label)) g _ (byLine (f .n) (f .t) (rowClaim g (f .n) M) (columnClaim g (f .n) M)) _ (lineSum (now (f .draws)) (f .from) (f .n) (f .t)) (now (f .draws)) _
-    (rw (line .ensures .0, line .ensures .1) at (c .before .before .before .before .before .before .sum-of .ensures)
+    (rw (line .ensures .0, line .ensures .1) at (c .before .before .before .before .before .sum-of .ensures)
     ∙ ap (λ (x : ℕ). x % f .g .group .q) (line-sum (now (f .draws)) (f .from) (f .n) (f .t))))
 
 pub write-line-spec : {M : Type 1} → statement M
@@ -71,7 +71,6 @@ write-line-spec =
     (λ c. omega (arith, fits (c .before .before)))
     (λ c. omega (arith, fits (c .before .before), c .before .before .before .before .before .before .before .pre .1 .near))
     (λ c. omega (arith, fits (c .before .before), c .before .before .before .before .before .before .before .pre))
-    (λ c. search needs)
     (λ c. search needs)
     make-requires
     (λ c. search needs)

@@ -22,15 +22,15 @@ witnesses-requires c κs =
 
 make-requires : tie.Need-make-requires
 make-requires c κs =
-    let s = c .before .before .before .before .before .before .before .before .before .before in
+    let s = c .before .before .before .before .before .before .before .before .before in
     let f = s .args in
     let g = parametersOf (f .g .group) in
     let p = s .pre .0 .1 in
-    ((s .pre .0 .0, planned-shift g (f .s) (now (f .draws)) p (now (f .page)) _ (s .pre .0 .3) (c .before .before .before .before .inverse-table .ensures)), (omega (arith, s .pre .0 .2), omega (arith, count-few g (f .s) (now (f .draws)) p, c .before .before .before .before .before .witnesses .ensures .long)))
+    ((s .pre .0 .0, planned-shift g (f .s) (now (f .draws)) p (now (f .page)) _ (s .pre .0 .3) (c .before .before .before .inverse-table .ensures)), (omega (arith, s .pre .0 .2), omega (arith, count-few g (f .s) (now (f .draws)) p)))
 
 returns : tie.Need-returns
 returns c =
-    let s = c .before .before .before .before .before .before .before .before .before .before .before .before .before in
+    let s = c .before .before .before .before .before .before .before .before .before .before .before .before in
     let f = s .args in
     let g = parametersOf (f .g .group) in
     let p = s .pre .0 .1 in
@@ -40,7 +40,7 @@ returns c =
     (shift-proof-is g (f .s) (now (f .draws)) p (now (f .label)) (now (f .page)) _
     (paged-same g (f .s .n) (λ k. getD (f .s .before) k 0) (now (f .draws)) (f .s .old) (now (f .page)) 0 (f .s .rows + 1) (p .modulus) small (s .pre .1 .0))
     (paged-same g (f .s .n) (λ k. getD (f .s .after) k 0) (now (f .draws)) (f .s .new) (now (f .page)) 512 (f .s .rows) (p .modulus) small (s .pre .1 .1))
-    (c .before .before .before .before .before .before .before .before .witnesses .ensures))
+    (c .before .before .before .before .before .before .before .witnesses .ensures))
 
 pub write-shift-proof-spec : {M : Type 1} → statement M
 write-shift-proof-spec =
@@ -56,7 +56,6 @@ write-shift-proof-spec =
     (λ c. let f = c .before .before .before .before .before .before .args in omega (arith, count-few (parametersOf (f .g .group)) (f .s) (now (f .draws)) (c .before .before .before .before .before .before .pre .0 .1)))
     (λ c. let f = c .before .before .before .before .before .before .args in omega (arith, count-few (parametersOf (f .g .group)) (f .s) (now (f .draws)) (c .before .before .before .before .before .before .pre .0 .1)))
     (λ c. let f = c .before .before .before .before .before .before .before .args in omega (arith, count-few (parametersOf (f .g .group)) (f .s) (now (f .draws)) (c .before .before .before .before .before .before .before .pre .0 .1), c .before .before .before .before .before .before .before .pre .0 .1 .news .near))
-    (λ c. search needs)
     (λ c. search needs)
     make-requires
     (λ c. search needs)

@@ -34,7 +34,7 @@ returns : tie.Need-returns Inv-loop μ-loop
 returns c =
     let l = c .before .before .loop in
     let e : l .i ≡ c .before .before .before .before .args .count = omega arith in
-    c .rest-of .ensures ∙ rw (l .inv .2, e)
+    c .reduce-exp .ensures ∙ rw (l .inv .2, e)
 
 pub sum-of-spec : {M : Type 1} → statement M
 sum-of-spec =

@@ -39,8 +39,8 @@ loop-holds c =
       omega arith,
       few (f .rows) (f .n) (omega (arith, s .pre .0)) (omega (arith, s .pre .0)),
       refl,
-      witnessed-more (f .q) (f .n) (now (f .draws)) (f .old) (f .new) (f .a) (f .l) 1 _ (set (replicate 64 0) 0 (getD (now (f .draws)) (f .old + f .l * f .n + f .a) 0))
-          (witnessed-more (f .q) (f .n) (now (f .draws)) (f .old) (f .new) (f .a) (f .l) 0 _ (replicate 64 0)
+      witnessed-more (f .q) (f .n) (now (f .draws)) (f .old) (f .new) (f .a) (f .l) 1 _ (set (replicate 64 (record { 0 = 0 })) 0 (record { 0 = getD (now (f .draws)) (f .old + f .l * f .n + f .a) 0 }))
+          (witnessed-more (f .q) (f .n) (now (f .draws)) (f .old) (f .new) (f .a) (f .l) 0 _ (replicate 64 (record { 0 = 0 }))
           (witnessed-none (f .q) (f .n) (now (f .draws)) (f .old) (f .new) (f .a) (f .l) _ refl) (omega arith) (witness-first (f .q) (f .n) (now (f .draws)) (f .old) (f .new) (f .a) (f .l) _ refl))
           (omega arith) (witness-second (f .q) (f .n) (now (f .draws)) (f .old) (f .new) (f .a) (f .l) _ (c .sum-of .ensures)),
     )

@@ -13,13 +13,13 @@ use Rattle.proving.proofs.branch.answer.Statement.{statement}
 use Rattle.proving.proofs.branch.answer.Tie as tie
 
 abbrev Inv-loop : tie.InvT-loop
-Inv-loop out₀ q e statements witness draws at i₀ out i =
+Inv-loop out₀ q e statements draws at witness i₀ out i =
     (i ≤ statements) × (length out ≡ length out₀)
     × ((o : List ℕ) → length o ≡ length out₀ → out₀ ≡ written (bytes4 (e .0)) o →
     out ≡ written (branchOf (e .0) i (λ i. part o (4 + 12 * i) 8) (answers q (e .0) witness draws at)) o)
 
 abbrev μ-loop : tie.MeasureT-loop
-μ-loop out₀ q e statements witness draws at i₀ out i = statements - i
+μ-loop out₀ q e statements draws at witness i₀ out i = statements - i
 
 loop-holds : tie.Need-loop-holds Inv-loop μ-loop
 loop-holds c = (omega arith, refl, λ o n h. h ∙ branch-none _ _ _ o)
@@ -27,17 +27,17 @@ loop-holds c = (omega arith, refl, λ o n h. h ∙ branch-none _ _ _ o)
 loop-again : tie.Need-loop-again Inv-loop μ-loop
 loop-again c =
     let l = c .before .before .before .before .before .before .before .before .loop in
-    let f = c .before .before .before .before .before .before .before .before .before .before .before .before .before .before .before .before .args in
+    let f = c .before .before .before .before .before .before .before .before .before .before .before .before .before .before .before .args in
     let p = c .before .before .put-word2 .ensures in (
       omega arith,
       search needs,
-      λ o n h. answer-more (f .e .0) (answers (f .q) (f .e .0) (now (f .witness)) (now (f .draws)) (f .at)) o (l .i) _ (l .out) _ refl (omega (arith, n, c .before .before .before .before .before .before .before .before .before .before .before .put-word, c .before .before .before .before .before .before .before .before .before .before .before .before .before .before .before .before)) (l .inv .2 o n h) (p ∙ rw (c .before .before .before .before .response .ensures)),
+      λ o n h. answer-more (f .e .0) (answers (f .q) (f .e .0) (f .t5) (now (f .draws)) (f .at)) o (l .i) _ (l .out) _ refl (omega (arith, n, c .before .before .before .before .before .before .before .before .before .before .before .put-word, c .before .before .before .before .before .before .before .before .before .before .before .before .before .before .before)) (l .inv .2 o n h) (p ∙ rw (c .before .before .before .before .response .ensures)),
     )
 
 returns : tie.Need-returns Inv-loop μ-loop
 returns c =
     let l = c .before .loop in
-    let e : l .i ≡ c .before .before .before .before .before .before .before .before .before .args .statements = omega arith in
+    let e : l .i ≡ c .before .before .before .before .before .before .before .before .args .statements = omega arith in
     rw (← e) (l .inv .2 _ (omega arith) (c .before .before .before .before .put-word .ensures))
 
 pub answer-spec : {M : Type 1} → statement M
