@@ -7,9 +7,11 @@ use mathlib.Core.Option.{none, some}
 use lib.ListN.{length}
 use Rattle.sha256.specs.Message.{sha256}
 use Rattle.rules.specs.Records.{recordAt, sheetLength}
-use Rattle.rules.specs.Count.{Standing, closes}
+use Rattle.rules.specs.Count.{closes, leaves, next}
 use Rattle.rules.specs.Check.{Verdict, accepted, refused, roundVerdict, counts, faultBelow, recordFault}
 use Rattle.rules.specs.Answers.{refusalNumber}
+use Rattle.count.specs.declared.Count.{Count}
+use Rattle.count.specs.State.{standingOf, Kept}
 use Rattle.records.specs.declared.Head.{Head}
 use Rattle.records.specs.Heads.{headOf}
 use Rattle.checker.specs.declared.turns.Found.{Found}
@@ -24,11 +26,17 @@ Searched s h a m F.Sound =
 Searched s h a m (F.Refused w k) =
     (k < h .k) × (faultBelow (h .k) (recordFault sha256 s (headOf s h) a m) ≡ some (k, refusalNumber w))
 
--- the round: whatever comes after it, or its own verdict
-unfoldable pub Rounded : (s : List ℕ) → Head → Standing → (m a : ℕ) → Round → Type 0
-Rounded s h st m a Open =
-    ((after : Verdict) → roundVerdict sha256 s (headOf s h) st m a after ≡ after)
-    × (closes (h .n) st (counts s (headOf s h) m) (h .k) ≡ false)
+-- the round: whatever comes after it, who goes out and the next standing count; or its own verdict, and the standing count as it was
+unfoldable pub Rounded : (s : List ℕ) → Head → (before : Count) (m a : ℕ) → Round → (handed : Count) → Type 0
+Rounded s h before m a (Open out) handed =
+    ((after : Verdict) → roundVerdict sha256 s (headOf s h) (standingOf (h .n) before) m a after ≡ after)
+    × (closes (h .n) (standingOf (h .n) before) (counts s (headOf s h) m) (h .k) ≡ false)
     × (recordAt (h .n) (h .k) m (h .k) + sheetLength (h .n) ≤ length s)
-Rounded s h st m a (Closed winner) = (after : Verdict) → roundVerdict sha256 s (headOf s h) st m a after ≡ accepted (m + 1) (st .gone) winner
-Rounded s h st m a (Refused w at) = (after : Verdict) → roundVerdict sha256 s (headOf s h) st m a after ≡ refused (refusalNumber w) at
+    × (out ≡ leaves (h .n) (standingOf (h .n) before) (counts s (headOf s h) m)) × (out ≤ h .n)
+    × (handed .gone .outs ≡ before .gone .outs + 1) × Kept handed
+    × (standingOf (h .n) handed ≡ next (h .n) (standingOf (h .n) before) (counts s (headOf s h) m))
+Rounded s h before m a (Closed winner) handed =
+    ((after : Verdict) → roundVerdict sha256 s (headOf s h) (standingOf (h .n) before) m a after ≡ accepted (m + 1) (standingOf (h .n) before .gone) winner)
+    × (handed ≡ before)
+Rounded s h before m a (Refused w at) handed =
+    ((after : Verdict) → roundVerdict sha256 s (headOf s h) (standingOf (h .n) before) m a after ≡ refused (refusalNumber w) at) × (handed ≡ before)

@@ -4,12 +4,11 @@ use crate::turns::Round;
 use count::Count;
 use records::Head;
 use records::header::Opened;
-use records::sheet;
 use rules::Answer;
 use rules::Checked;
 use rules::Refusal;
 ghost use mathlib.Core.Path.{_≡_};
-ghost use Prim.Native.Nat.{_+_, _*_, _-_};
+ghost use Prim.Native.Nat.{_+_};
 ghost use lib.ListN.{replicate};
 ghost use Rattle.sha256.specs.Message.{sha256};
 ghost use Rattle.rules.specs.Records.{headerLength};
@@ -61,20 +60,21 @@ fn rounds(board: &[u8], at: usize, h: Head) -> Checked
     let mut count = Count::new();
     let mut stage = Stage::first(n, at);
     loop {
-        let outcome = turns::turn(board, head, count, stage);
-        match outcome {
+        let turned = turns::turn(board, head, count, stage);
+        let round = turned.round;
+        match round {
             Round::Refused(why, place) => {
                 return refused(why, place);
             }
             Round::Closed(winner) => {
                 return accepted(count, n, winner);
             }
-            Round::Open => {}
+            Round::Open(out) => {
+                let next = turned.count;
+                count = next;
+                stage = stage.next(n, k, out);
+            }
         }
-        let sheet = sheet::sheet_counts(board, stage.at + k * stage.size, n);
-        let out = count.leaves(sheet, n);
-        count = count.sheet(sheet, n);
-        stage = stage.next(n, k, out);
     }
 }
 

@@ -1,4 +1,4 @@
-// One round: its ballots' records, its sheet, and what comes after.
+// One round, record by record.
 use crate::stages;
 use crate::stages::Stage;
 use count::Count;
@@ -6,6 +6,7 @@ use records::Fault;
 use records::Head;
 use records::ballot;
 use records::sheet;
+use records::sheet::Outcome;
 use records::shift;
 use rules::Refusal;
 ghost use mathlib.Core.Path.{_≡_};
@@ -14,7 +15,7 @@ ghost use lib.ListN.{length};
 ghost use Rattle.sha256.specs.Message.{sha256};
 ghost use Rattle.rules.specs.Records.{recordAt};
 ghost use Rattle.rules.specs.Check.{recordFault};
-ghost use Rattle.count.specs.State.{standingOf, Kept};
+ghost use Rattle.count.specs.State.{Kept};
 ghost use Rattle.records.specs.Heads.{headOf, Known};
 ghost use Rattle.records.specs.Faults.{faultNumber};
 ghost use Rattle.checker.specs.Stages.{Placed};
@@ -26,11 +27,17 @@ pub enum Found {
     Refused(Refusal, usize),
 }
 
-// What a round comes to: the winner, or the refusal and the record's number.
+// What a round comes to: the process that goes out, the winner, or the refusal and the record's number.
 pub enum Round {
-    Open,
+    Open(usize),
     Closed(usize),
     Refused(Refusal, usize),
+}
+
+// It, and the standing count that the round's sheet hands back: the next, or the one before where no process goes out.
+pub struct Turned {
+    pub round: Round,
+    pub count: Count,
 }
 
 // Ballot k's record in round m; process a went out in the round before, in which the ballot's record stands at before.
@@ -72,28 +79,46 @@ fn ballots_fault(board: &[u8], h: Head, stage: Stage) -> Found
     Found::Sound
 }
 
-pub fn turn(board: &[u8], h: Head, count: Count, stage: Stage) -> Round
-    requires { ⌜ Known (now board) h × Placed (now board) h stage × Kept count ⌝ }
-    ensures { λ r. ⌜ Rounded (now (board .entry)) h (standingOf (h .n) count) (stage .m) (stage .a) r ⌝ }
+fn refused(why: Refusal, place: usize, count: Count) -> Turned
+    ensures { λ r. ⌜ (r .round ≡ Round.Refused why place) × (r .count ≡ count) ⌝ }
+{
+    Turned {
+        round: Round::Refused(why, place),
+        count,
+    }
+}
+
+// One round: its ballots' records, its sheet, and the end of the board where the sheet closes it.
+pub fn turn(board: &[u8], h: Head, count: Count, stage: Stage) -> Turned
+    requires { ⌜ Known (now board) h × Placed (now board) h stage × Kept count × (count .gone .outs ≡ stage .m) ⌝ }
+    ensures { λ r. ⌜ Rounded (now (board .entry)) h count (stage .m) (stage .a) (r .round) (r .count) ⌝ }
 {
     let n = h.n;
     let k = h.k;
     let m = stage.m;
     let found = ballots_fault(board, h, stage);
     if let Found::Refused(why, j) = found {
-        return Round::Refused(why, stages::record_number(k, m, j));
+        return refused(why, stages::record_number(k, m, j), count);
     }
     let at = stage.at + k * stage.size;
-    let fault = sheet::sheet_fault(board, h, count, m, stage.at, stage.size, at);
-    if let Fault::Refused(why) = fault {
-        return Round::Refused(why, stages::record_number(k, m, k));
-    }
-    let sheet = sheet::sheet_counts(board, at, n);
-    if count.closes(sheet, n, k as u32) {
-        if board.len() == at + (4 + 6 * n) {
-            return Round::Closed(count.wins(sheet, n));
+    let step = sheet::sheet_step(board, h, count, m, stage.at, stage.size, at);
+    let next = step.count;
+    let outcome = step.outcome;
+    let number = stages::record_number(k, m, k);
+    match outcome {
+        Outcome::Refused(why) => refused(why, number, next),
+        Outcome::Closed(winner) => {
+            if board.len() != at + (4 + 6 * n) {
+                return refused(Refusal::Remain, number + 1, next);
+            }
+            Turned {
+                round: Round::Closed(winner),
+                count: next,
+            }
         }
-        return Round::Refused(Refusal::Remain, stages::record_number(k, m, k) + 1);
+        Outcome::Open(out) => Turned {
+            round: Round::Open(out),
+            count: next,
+        },
     }
-    Round::Open
 }

@@ -8,8 +8,8 @@ use native.Mathlib.Omega.{arith}
 use lib.Dec.{eqb}
 use lib.ListN.{length, getD, take, drop, set, replicate, length-map, length-set}
 use lib.Seq.{getD-take, length-take-le, take-suc-set, drop-set-lt, drop-drop}
-use Rattle.rules.specs.Count.{Standing, member, lowest, highest, countOf, leaves, next}
-use Rattle.count.specs.State.{preferred, picked, pick, passes, countsOn, listOf, standingOf, Kept}
+use Rattle.rules.specs.Count.{Standing, member, lowest, highest, countOf}
+use Rattle.count.specs.State.{preferred, picked, pick, passes, countsOn, listOf, standingOf, wentOut, Kept}
 use Rattle.count.specs.declared.Count.{Count}
 use Rattle.count.specs.declared.Sheet.{Sheet}
 
@@ -70,13 +70,12 @@ module _ (n : ℕ) (c : Count) (t : Sheet) (x : ℕ) (k : Kept c) (h : c .gone .
         sheets-long = simp length-set (k .sheets-long);
       }
 
-  pub standing-next : x ≡ leaves n (standingOf n c) (countsOn n t) → standingOf n after ≡ next n (standingOf n c) (countsOn n t)
+  pub standing-next : standingOf n after ≡ wentOut (standingOf n c) x (countsOn n t)
   unfolding standingOf
-  standing-next e =
+  standing-next =
       rw (
         add-one (c .gone .outs),
         take-suc-set (c .gone .order) (c .gone .outs) x (omega arith),
         take-suc-set (c .sheets) (c .gone .outs) t (omega arith),
         map-append (countsOn n),
-        e,
       )

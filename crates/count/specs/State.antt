@@ -1,7 +1,7 @@
 -- What the code's standing count stands for in the rules.
 use Prim.Native.Nat.{ℕ, _+_, _*_, _-_, _≤_}
 use mathlib.Core.Path.{_≡_}
-use mathlib.Core.List.{List, map}
+use mathlib.Core.List.{List, [], _∷_, _++_, map}
 use mathlib.Core.Bool.{Bool, cond, not, _&&_, _||_}
 use lib.Dec.{eqb, leb, ltb}
 use lib.ListN.{length, getD, take, drop, replicate}
@@ -21,6 +21,10 @@ listOf g = take (g .outs) (g .order)
 -- and the counts of as many rounds
 unfoldable pub standingOf : (n : ℕ) → Count → Standing
 standingOf n c = record { gone = listOf (c .gone); sheets = map (countsOn n) (take (c .gone .outs) (c .sheets)) }
+
+-- process out has gone out, with the sheet of its round: `next`, where out is who leaves
+abbrev pub wentOut : Standing → (out : ℕ) (counts : List ℕ) → Standing
+wentOut st out counts = record { gone = st .gone ++ (out ∷ []); sheets = st .sheets ++ (counts ∷ []) }
 
 -- room for 8; past those gone out there are zeros
 pub record Listed (g : Gone) : Type 0 where

@@ -1,8 +1,8 @@
 // The standing count by value: each sheet takes it and hands back the next.
 ghost use mathlib.Core.Path.{_≡_};
 ghost use Prim.Native.Nat.{ℕ, _+_, _*_, _≤_, _<_};
-ghost use Rattle.rules.specs.Count.{member, start, next, leaves, wins, closes, majority};
-ghost use Rattle.count.specs.State.{countsOn, listOf, standingOf, Listed, Kept, preferred, picked, pick, passes};
+ghost use Rattle.rules.specs.Count.{member, start, leaves, wins, closes, majority};
+ghost use Rattle.count.specs.State.{countsOn, listOf, standingOf, wentOut, Listed, Kept, preferred, picked, pick, passes};
 
 // The counts of a round, by process.
 pub struct Sheet {
@@ -152,12 +152,11 @@ impl Count {
         self.majority(sheet, n, k)
     }
 
-    // The next standing count: the sheet is kept, and the process that leaves has gone out.
-    pub fn sheet(self, sheet: Sheet, n: usize) -> Count
-        requires { ⌜ Kept self × (self .gone .outs < 8) × (n ≤ 8) ⌝ }
-        ensures { λ r. ⌜ (r .gone .outs ≡ self .gone .outs + 1) × Kept r × (standingOf n r ≡ next n (standingOf n self) (countsOn n sheet)) ⌝ }
+    // The next standing count: the sheet is kept, and process out has gone out.
+    pub fn sheet(self, sheet: Sheet, out: usize) -> Count
+        requires { ⌜ Kept self × (self .gone .outs < 8) × (out ≤ 8) ⌝ }
+        ensures { λ r. ⌜ (r .gone .outs ≡ self .gone .outs + 1) × Kept r × ((n : ℕ) → standingOf n r ≡ wentOut (standingOf n self) out (countsOn n sheet)) ⌝ }
     {
-        let out = self.leaves(sheet, n);
         let gone = self.gone;
         let at = gone.outs;
         let mut order = gone.order;

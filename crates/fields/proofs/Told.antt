@@ -4,14 +4,15 @@ use mathlib.Core.Path.{_≡_, refl}
 use mathlib.Core.Bool.{Bool, true, false}
 use mathlib.Core.List.{List}
 use native.Mathlib.Omega.{arith}
-use lib.Dec.{ltb}
+use lib.Dec.{leb, ltb}
 use Rattle.group.specs.Elements.{isElement}
 use Rattle.group.specs.declared.Element.{Element}
 use Rattle.group.specs.declared.Exponent.{Exponent}
-use Rattle.rules.specs.Bytes.{word}
+use Rattle.rules.specs.Bytes.{half, word}
 use Rattle.fields.specs.declared.ElementField.the-variants as E
 use Rattle.fields.specs.declared.ExponentField.the-variants as X
-use Rattle.fields.specs.Answers.{elementIf, exponentIf, elementAt, exponentAt}
+use Rattle.fields.specs.declared.CountField.the-variants as C
+use Rattle.fields.specs.Answers.{elementIf, exponentIf, countIf, elementAt, exponentAt, countAt}
 
 element-if : (b : Bool) (x n : ℕ) (e : Element) (next : ℕ) → elementIf b x n ≡ E.Value e next → (b ≡ true) × (next ≡ n)
 element-if true x n e next h = (refl, cc)
@@ -29,6 +30,14 @@ exponent-else : (b : Bool) (x n : ℕ) → exponentIf b x n ≡ X.Refused → b 
 exponent-else true x n h = let z : _≡_ {A = ℕ} 0 1 = cc in absurd (omega arith)
 exponent-else false x n h = refl
 
+count-if : (b : Bool) (x n y next : ℕ) → countIf b x n ≡ C.Value y next → (b ≡ true) × (next ≡ n) × (y ≡ x)
+count-if true x n y next h = (refl, cc, cc)
+count-if false x n y next h = let z : _≡_ {A = ℕ} 0 1 = cc in absurd (omega arith)
+
+count-else : (b : Bool) (x n : ℕ) → countIf b x n ≡ C.Refused → b ≡ false
+count-else true x n h = let z : _≡_ {A = ℕ} 0 1 = cc in absurd (omega arith)
+count-else false x n h = refl
+
 pub element-value : (s : List ℕ) (at p q : ℕ) {e : Element} {next : ℕ} → elementAt s at p q ≡ E.Value e next → (isElement p q (word s at) ≡ true) × (next ≡ at + 4)
 element-value s at p q {e} {next} h = element-if (isElement p q (word s at)) (word s at) (at + 4) e next h
 
@@ -40,3 +49,9 @@ exponent-value s at q {e} {next} h = exponent-if (ltb (word s at) q) (word s at)
 
 pub exponent-refused : (s : List ℕ) (at q : ℕ) → exponentAt s at q ≡ X.Refused → ltb (word s at) q ≡ false
 exponent-refused s at q h = exponent-else (ltb (word s at) q) (word s at) (at + 4) h
+
+pub count-value : (s : List ℕ) (at most : ℕ) {y next : ℕ} → countAt s at most ≡ C.Value y next → (leb (half s at) most ≡ true) × (next ≡ at + 2) × (y ≡ half s at)
+count-value s at most {y} {next} h = count-if (leb (half s at) most) (half s at) (at + 2) y next h
+
+pub count-refused : (s : List ℕ) (at most : ℕ) → countAt s at most ≡ C.Refused → leb (half s at) most ≡ false
+count-refused s at most h = count-else (leb (half s at) most) (half s at) (at + 2) h

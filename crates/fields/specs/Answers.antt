@@ -2,13 +2,15 @@
 use Prim.Native.Nat.{ℕ, _+_}
 use mathlib.Core.List.{List}
 use mathlib.Core.Bool.{Bool, true, false}
-use lib.Dec.{ltb}
+use lib.Dec.{leb, ltb}
 use Rattle.group.specs.Elements.{isElement}
-use Rattle.rules.specs.Bytes.{word}
+use Rattle.rules.specs.Bytes.{half, word}
 use Rattle.fields.specs.declared.ElementField.{ElementField}
 use Rattle.fields.specs.declared.ElementField.the-variants as E
 use Rattle.fields.specs.declared.ExponentField.{ExponentField}
 use Rattle.fields.specs.declared.ExponentField.the-variants as X
+use Rattle.fields.specs.declared.CountField.{CountField}
+use Rattle.fields.specs.declared.CountField.the-variants as C
 
 abbrev pub elementIf : Bool → (x next : ℕ) → ElementField
 elementIf true x next = E.Value (record { 0 = x }) next
@@ -18,6 +20,10 @@ abbrev pub exponentIf : Bool → (x next : ℕ) → ExponentField
 exponentIf true x next = X.Value (record { 0 = x }) next
 exponentIf false x next = X.Refused
 
+abbrev pub countIf : Bool → (x next : ℕ) → CountField
+countIf true x next = C.Value x next
+countIf false x next = C.Refused
+
 -- an element of the group at a place
 abbrev pub elementAt : (s : List ℕ) (at p q : ℕ) → ElementField
 elementAt s at p q = elementIf (isElement p q (word s at)) (word s at) (at + 4)
@@ -25,3 +31,7 @@ elementAt s at p q = elementIf (isElement p q (word s at)) (word s at) (at + 4)
 -- a number below q at a place
 abbrev pub exponentAt : (s : List ℕ) (at q : ℕ) → ExponentField
 exponentAt s at q = exponentIf (ltb (word s at) q) (word s at) (at + 4)
+
+-- a number of 2 bytes at a place, at most so high
+abbrev pub countAt : (s : List ℕ) (at most : ℕ) → CountField
+countAt s at most = countIf (leb (half s at) most) (half s at) (at + 2)

@@ -1,4 +1,4 @@
-// The fields of a record: numbers of 2 and 4 bytes, high byte first; elements and exponents, tested as they are read; products of words; a digest as a challenge and as an element.
+// The fields of a record: numbers of 2 and 4 bytes, high byte first; elements, exponents and counts, tested as they are read; products of words; a digest as a challenge and as an element.
 use group::Element;
 use group::Exponent;
 ghost use mathlib.Core.Path.{_≡_};
@@ -7,7 +7,7 @@ ghost use lib.ListN.{length};
 ghost use Rattle.numbers.specs.Below.{prodBelow};
 ghost use Rattle.rules.specs.Bytes.{half, word, long};
 ghost use Rattle.rules.specs.Claims.{besides};
-ghost use Rattle.fields.specs.Answers.{elementAt, exponentAt};
+ghost use Rattle.fields.specs.Answers.{elementAt, exponentAt, countAt};
 
 // What reading an element finds: it and the place after it, or that the number is no element.
 pub enum ElementField {
@@ -18,6 +18,12 @@ pub enum ElementField {
 // What reading an exponent finds: it and the place after it, or that the number is not below q.
 pub enum ExponentField {
     Value(Exponent, usize),
+    Refused,
+}
+
+// What reading a count finds: it and the place after it, or that the number is above the most that it may be.
+pub enum CountField {
+    Value(u32, usize),
     Refused,
 }
 
@@ -62,6 +68,18 @@ pub fn exponent(s: &[u8], at: usize, q: u32) -> ExponentField
         ExponentField::Value(Exponent(x), at + 4)
     } else {
         ExponentField::Refused
+    }
+}
+
+pub fn count(s: &[u8], at: usize, most: u32) -> CountField
+    requires { ⌜ at + 2 ≤ length (now s) ⌝ }
+    ensures { λ r. ⌜ r ≡ countAt (now (s .entry)) at most ⌝ }
+{
+    let x = half(s, at);
+    if x <= most {
+        CountField::Value(x, at + 2)
+    } else {
+        CountField::Refused
     }
 }
 

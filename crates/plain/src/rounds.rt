@@ -69,7 +69,7 @@ pub fn measure_of(rankings: &[u8], n: usize, k: usize) -> Measure
                 length,
             };
         }
-        let next = count.sheet(sheet, n);
+        let next = count.sheet(sheet, count.leaves(sheet, n));
         count = next;
     }
 }

@@ -4,3 +4,4 @@ pub mod Framing
 pub mod HeaderTable
 pub mod BallotTables
 pub mod SheetTable
+pub mod SheetSteps

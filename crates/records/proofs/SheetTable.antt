@@ -9,10 +9,11 @@ use native.Mathlib.Numerals.{add-one}
 use native.Mathlib.Omega.{arith}
 use lib.Dec.{leb, ltb, eqb}
 use lib.ListN.{length, getD, take, set}
-use lib.Seq.{take-suc-set}
+use lib.Seq.{take-suc-set, getD-take}
 use borrow.Author.Tests.{le-leb}
 use Rattle.numbers.specs.Below.{allBelow}
 use Rattle.numbers.proofs.Tests.{all-same}
+use Rattle.group.specs.declared.Exponent.{Exponent}
 use Rattle.rules.specs.Bytes.{word, half}
 use Rattle.rules.specs.Records.{RT, hasMark, recordAt, roundAt, recordLength, sheetLength}
 use Rattle.rules.specs.Claims.{matrixAt}
@@ -20,12 +21,13 @@ use Rattle.rules.specs.Count.{table}
 use Rattle.rules.specs.Check.{Test, firstFault, _orElse_, sheetFields, sheetFault, tallies, counts}
 use Rattle.rules.specs.Answers.{refusalNumber}
 use Rattle.rules.specs.declared.Refusal.{Refusal}
+use Rattle.rules.proofs.Lists.{table-at}
 use Rattle.statements.proofs.PlainClaims.{prod-words}
 use Rattle.records.specs.declared.Head.{Head}
 use Rattle.records.specs.declared.Fault.the-variants.{Sound, Refused}
 use Rattle.records.specs.Heads.{headOf}
 use Rattle.records.specs.Sizes.{sheetSize}
-use Rattle.records.specs.Faults.{Framed, Counted}
+use Rattle.records.specs.Faults.{Framed, Counted, exponentOf}
 use Rattle.records.specs.Parts.{countGood, tallyAt}
 
 module _ (s : List ℕ) (h : Head) (m at : ℕ) (e : at ≡ recordAt (h .n) (h .k) m (h .k)) where
@@ -70,12 +72,17 @@ module _ (s : List ℕ) (h : Head) (m at : ℕ) (e : at ≡ recordAt (h .n) (h .
     unfolding recordAt
     spot k i = rw (ef, es) (omega arith)
 
-    pub tallies-are : tallies s (headOf s h) m ≡ allBelow (h .n) (tallyAt s h first size at)
+    -- with the counts and exponents that were read
+    pub tallies-are : (read : List ℕ) (xs : List Exponent) → take (h .n) read ≡ table (h .n) (λ i. half s (at + 4 + 6 * i)) →
+        ((i : ℕ) → i < h .n → exponentOf xs i ≡ word s (at + 6 + 6 * i)) →
+        tallies s (headOf s h) m ≡ allBelow (h .n) (λ i. tallyAt s h first size i (getD read i 0) (exponentOf xs i))
     unfolding tallies matrixAt
-    tallies-are =
-        all-same (h .n) _ (tallyAt s h first size at)
+    tallies-are read xs er ex =
+        all-same (h .n) _ (λ i. tallyAt s h first size i (getD read i 0) (exponentOf xs i))
         (λ i l.
         rw (
+          ex i l,
+          sym (getD-take (h .n) read i 0 l) ∙ ap (λ (t : List ℕ). getD t i 0) er ∙ table-at (h .n) (λ i. half s (at + 4 + 6 * i)) 0 i l,
           e,
           prod-words s (h .k) (λ k. recordAt (h .n) (h .k) m k + 4 + 8 * (0 * h .n + i)) (λ k. first + 4 + 8 * i + size * k) (λ k _. spot k i),
           prod-words s (h .k) (λ k. recordAt (h .n) (h .k) m k + 4 + 8 * (0 * h .n + i) + 4) (λ k. first + 4 + 8 * i + 4 + size * k)
@@ -104,22 +111,20 @@ module _ (s : List ℕ) (h : Head) (m at : ℕ) (e : at ≡ recordAt (h .n) (h .
       unfolding Framed firstFault
       in-frame = sheet-is ∙ rw (le-leb (at + sheetSize (h .n)) (length s) (f .0), f .1, f .2)
 
-      pub wrong-fields : (w : Refusal) → Counted s h m (Refused w) → refusalNumber w ≡ sheetFault s (headOf s h) m d
-      unfolding Counted
-      wrong-fields w g = sym (in-frame ∙ g _)
+      module _ (read : List ℕ) (xs : List Exponent) where
+        pub wrong-fields : (w : Refusal) → Counted s h m at read xs (Refused w) → refusalNumber w ≡ sheetFault s (headOf s h) m d
+        unfolding Counted
+        wrong-fields w g = sym (in-frame ∙ g _)
 
-      module _ (g : Counted s h m Sound) where
-        pub wrong-tally : tallies s (headOf s h) m ≡ false → 10 ≡ sheetFault s (headOf s h) m d
-        unfolding Counted firstFault
-        wrong-tally t = sym (in-frame ∙ g _ ∙ rw t)
+        module _ (g : Counted s h m at read xs Sound) where
+          pub wrong-tally : tallies s (headOf s h) m ≡ false → 10 ≡ sheetFault s (headOf s h) m d
+          unfolding Counted firstFault
+          wrong-tally t = sym (in-frame ∙ g .0 _ ∙ rw t)
 
-        pub wrong-out : tallies s (headOf s h) m ≡ true → eqb (getD s (at + 3) 0) d ≡ false → 11 ≡ sheetFault s (headOf s h) m d
-        unfolding Counted firstFault
-        wrong-out t b = sym (in-frame ∙ g _ ∙ rw (t, b))
-
-        pub all-sound : tallies s (headOf s h) m ≡ true → eqb (getD s (at + 3) 0) d ≡ true → 0 ≡ sheetFault s (headOf s h) m d
-        unfolding Counted firstFault
-        all-sound t b = sym (in-frame ∙ g _ ∙ rw (t, b))
+          -- the last test is left
+          pub last-test : tallies s (headOf s h) m ≡ true → firstFault ((eqb (getD s (at + 3) 0) d orElse 11) ∷ []) ≡ sheetFault s (headOf s h) m d
+          unfolding Counted firstFault
+          last-test t = sym (in-frame ∙ g .0 _ ∙ rw t)
 
 -- a table filled from the front
 pub table-more : (f : ℕ → ℕ) (l : List ℕ) (i x : ℕ) → i < length l → take i l ≡ table i f → x ≡ f i → take (i + 1) (set l i x) ≡ table (i + 1) f

@@ -1,16 +1,23 @@
 -- What the tests of a record tell.
-use Prim.Native.Nat.{ℕ, _+_, _≤_}
+use Prim.Native.Nat.{ℕ, _+_, _*_, _≤_, _<_}
 use mathlib.Core.Path.{_≡_}
-use mathlib.Core.Bool.{true}
-use mathlib.Core.List.{List, _∷_, _++_}
+use mathlib.Core.Bool.{true, false, cond}
+use mathlib.Core.List.{List, [], _∷_, _++_}
 use lib.Dec.{leb, eqb}
-use lib.ListN.{length}
+use lib.ListN.{length, getD, take}
+use Rattle.group.specs.declared.Exponent.{Exponent}
+use Rattle.rules.specs.Bytes.{half, word}
 use Rattle.rules.specs.Records.{hasMark}
+use Rattle.rules.specs.Count.{table, next, leaves, wins, closes}
 use Rattle.rules.specs.Check.{Test, firstFault, _orElse_, sheetFields}
 use Rattle.rules.specs.Answers.{refusalNumber}
+use Rattle.count.specs.declared.Count.{Count}
+use Rattle.count.specs.State.{standingOf, Kept}
 use Rattle.records.specs.declared.Fault.{Fault}
 use Rattle.records.specs.declared.Fault.the-variants.{Sound, Refused}
 use Rattle.records.specs.declared.Head.{Head}
+use Rattle.records.specs.declared.sheet.Outcome.{Outcome}
+use Rattle.records.specs.declared.sheet.Outcome.the-variants as O
 use Rattle.records.specs.Heads.{headOf}
 
 -- 0 where there is none
@@ -25,7 +32,26 @@ Framed s at size mark shown due (Refused w) =
     (rest : List Test) →
     firstFault ((leb (at + size) (length s) orElse 1) ∷ (hasMark s at mark orElse 2) ∷ (eqb shown due orElse 6) ∷ rest) ≡ refusalNumber w
 
--- the walk of a sheet's fields
-unfoldable pub Counted : (s : List ℕ) → Head → (m : ℕ) → Fault → Type 0
-Counted s h m Sound = (rest : List Test) → firstFault (sheetFields s (headOf s h) m (h .n) ++ rest) ≡ firstFault rest
-Counted s h m (Refused w) = (rest : List Test) → firstFault (sheetFields s (headOf s h) m (h .n) ++ rest) ≡ refusalNumber w
+-- the exponent of process i + 1 among those of a sheet
+abbrev pub exponentOf : List Exponent → ℕ → ℕ
+exponentOf xs i = getD xs i (record { 0 = 0 }) .0
+
+-- the walk of the fields of a sheet at a place: the first refusal, or none, and the counts and exponents that were read
+unfoldable pub Counted : (s : List ℕ) → Head → (m at : ℕ) (read : List ℕ) (xs : List Exponent) → Fault → Type 0
+Counted s h m at read xs Sound =
+    ((rest : List Test) → firstFault (sheetFields s (headOf s h) m (h .n) ++ rest) ≡ firstFault rest)
+    × (take (h .n) read ≡ table (h .n) (λ i. half s (at + 4 + 6 * i)))
+    × ((i : ℕ) → i < h .n → exponentOf xs i ≡ word s (at + 6 + 6 * i))
+Counted s h m at read xs (Refused w) = (rest : List Test) → firstFault (sheetFields s (headOf s h) m (h .n) ++ rest) ≡ refusalNumber w
+
+-- the last test of a sheet, of what its out field holds
+abbrev pub outFault : (n k : ℕ) → Count → (cs : List ℕ) (out : ℕ) → ℕ
+outFault n k c cs out = firstFault ((eqb out (cond (closes n (standingOf n c) cs k) 0 (leaves n (standingOf n c) cs)) orElse 11) ∷ [])
+
+-- what a sheet with these counts and this fault comes to, and the standing count after it
+unfoldable pub Stepped : (n k : ℕ) (before : Count) (cs : List ℕ) (fault : ℕ) → Outcome → (after : Count) → Type 0
+Stepped n k c cs f (O.Refused w) after = (f ≡ refusalNumber w) × (after ≡ c)
+Stepped n k c cs f (O.Closed w) after = (f ≡ 0) × (closes n (standingOf n c) cs k ≡ true) × (w ≡ wins n (standingOf n c) cs) × (after ≡ c)
+Stepped n k c cs f (O.Open a) after =
+    (f ≡ 0) × (closes n (standingOf n c) cs k ≡ false) × (a ≡ leaves n (standingOf n c) cs) × (a ≤ n)
+    × (after .gone .outs ≡ c .gone .outs + 1) × Kept after × (standingOf n after ≡ next n (standingOf n c) cs)

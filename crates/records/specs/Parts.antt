@@ -53,10 +53,9 @@ shiftProofAt s h before at rows a =
 abbrev pub countGood : (s : List ℕ) (k q at i : ℕ) → Bool
 countGood s k q at i = leb (half s (at + 4 + 6 * i)) k && ltb (word s (at + 6 + 6 * i)) q
 
--- column i of a round whose ballots start at first, size bytes apart, and whose sheet stands at a place
-abbrev pub tallyAt : (s : List ℕ) (h : Head) (first size at i : ℕ) → Bool
-tallyAt s h first size at i =
-    eqb (prodBelow (h .k) (λ k. word s (first + 4 + 8 * i + size * k)) % h .setup .group .p)
-    (paired (parametersOf (h .setup .group)) (word s (at + 6 + 6 * i)) (half s (at + 4 + 6 * i)))
+-- column i of a round whose ballots start at first, size bytes apart, with the count and the exponent that its sheet has for it
+abbrev pub tallyAt : (s : List ℕ) (h : Head) (first size i count x : ℕ) → Bool
+tallyAt s h first size i count x =
+    eqb (prodBelow (h .k) (λ k. word s (first + 4 + 8 * i + size * k)) % h .setup .group .p) (paired (parametersOf (h .setup .group)) x count)
     && eqb (prodBelow (h .k) (λ k. word s (first + 4 + 8 * i + 4 + size * k)) % h .setup .group .p)
-    (powMod (h .setup .group .p) (h .setup .group .g1 .0) (word s (at + 6 + 6 * i)))
+    (powMod (h .setup .group .p) (h .setup .group .g1 .0) x)

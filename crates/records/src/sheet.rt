@@ -4,66 +4,96 @@ use crate::Head;
 use crate::frames;
 use count::Count;
 use count::Sheet;
+use fields::CountField;
 use fields::ExponentField;
 use group::Exponent;
 use rules::Refusal;
 ghost use mathlib.Core.Path.{_≡_};
-ghost use mathlib.Core.Bool.{cond};
 ghost use Prim.Native.Nat.{_+_, _*_, _≤_, _<_};
-ghost use lib.ListN.{length};
+ghost use lib.ListN.{length, getD};
 ghost use Rattle.numbers.specs.Below.{allBelow};
-ghost use Rattle.rules.specs.Bytes.{half};
 ghost use Rattle.rules.specs.Records.{recordAt, recordLength, roundAt};
-ghost use Rattle.rules.specs.Count.{table, closes, leaves};
 ghost use Rattle.rules.specs.Check.{counts, sheetFault, due};
 ghost use Rattle.count.specs.State.{standingOf, countsOn, Kept};
 ghost use Rattle.records.specs.Heads.{headOf, Known};
 ghost use Rattle.records.specs.Sizes.{sheetSize};
-ghost use Rattle.records.specs.Faults.{faultNumber, Counted};
+ghost use Rattle.records.specs.Faults.{Counted, exponentOf, outFault, Stepped};
 ghost use Rattle.records.specs.Parts.{tallyAt};
 
+// What a sheet comes to: the refusal; the winner, where it closes the board; or the process that goes out.
+pub enum Outcome {
+    Refused(Refusal),
+    Closed(usize),
+    Open(usize),
+}
+
+// It, and the standing count that the sheet hands back: the next, or the one that it took where no process goes out.
+pub struct Step {
+    pub outcome: Outcome,
+    pub count: Count,
+}
+
+// What is read of a sheet: the first refusal, and the counts and the exponents s by process.
+struct SheetFields {
+    fault: Fault,
+    sheet: Sheet,
+    s: [Exponent; 8],
+}
+
 // The counts and exponents of the sheet of round m, left to right.
-fn sheet_fields(board: &[u8], h: Head, m: usize, at: usize) -> Fault
+fn sheet_fields(board: &[u8], h: Head, m: usize, at: usize) -> SheetFields
     requires { ⌜ Known (now board) h × (at ≡ recordAt (h .n) (h .k) m (h .k)) × (at + sheetSize (h .n) ≤ length (now board)) ⌝ }
-    ensures { λ r. ⌜ Counted (now (board .entry)) h m r ⌝ }
+    ensures { λ r. ⌜ Counted (now (board .entry)) h m at (r .sheet .counts) (r .s) (r .fault) ⌝ }
 {
     let n = h.n;
-    let k = h.k;
+    let most = h.k as u32;
     let q = h.setup.group.q;
-    for i in 0..n {
-        if k < frames::number(board, at + 4 + 6 * i) {
-            return Fault::Refused(Refusal::Count);
-        }
-        let ExponentField::Value(_, _) = fields::exponent(board, at + 6 + 6 * i, q) else {
-            return Fault::Refused(Refusal::Field);
-        };
-    }
-    Fault::Sound
-}
-
-// The counts of the sheet at a place.
-pub fn sheet_counts(board: &[u8], at: usize, n: usize) -> Sheet
-    requires { ⌜ (n ≤ 8) × (at + sheetSize n ≤ length (now board)) ⌝ }
-    ensures { λ r. ⌜ countsOn n r ≡ table n (λ i. half (now (board .entry)) (at + 4 + 6 * i)) ⌝ }
-{
     let mut counts = [0u32; 8];
+    let mut s = [Exponent(0); 8];
+    let mut place = at + 4;
     for i in 0..n {
-        counts[i] = fields::half(board, at + 4 + 6 * i);
+        let CountField::Value(count, after) = fields::count(board, place, most) else {
+            return SheetFields {
+                fault: Fault::Refused(Refusal::Count),
+                sheet: Sheet { counts },
+                s,
+            };
+        };
+        let ExponentField::Value(x, end) = fields::exponent(board, after, q) else {
+            return SheetFields {
+                fault: Fault::Refused(Refusal::Field),
+                sheet: Sheet { counts },
+                s,
+            };
+        };
+        counts[i] = count;
+        s[i] = x;
+        place = end;
     }
-    Sheet { counts }
+    SheetFields {
+        fault: Fault::Sound,
+        sheet: Sheet { counts },
+        s,
+    }
 }
 
-// The tally equations of column i.
-fn tally(board: &[u8], h: Head, first: usize, size: usize, at: usize, i: usize) -> bool
-    requires { ⌜ Known (now board) h × (i < h .n) × (at + sheetSize (h .n) ≤ length (now board)) × (4 + 8 * h .n ≤ size) × (first + size * h .k ≤ length (now board)) ⌝ }
-    ensures { λ r. ⌜ r ≡ tallyAt (now (board .entry)) h first size at i ⌝ }
+// The tally equations of column i, with its count and its exponent s.
+fn tally(
+    board: &[u8],
+    h: Head,
+    first: usize,
+    size: usize,
+    i: usize,
+    count: Exponent,
+    s: Exponent,
+) -> bool
+    requires { ⌜ Known (now board) h × (i < h .n) × (4 + 8 * h .n ≤ size) × (first + size * h .k ≤ length (now board)) ⌝ }
+    ensures { λ r. ⌜ r ≡ tallyAt (now (board .entry)) h first size i (count .0) (s .0) ⌝ }
 {
     let group = h.setup.group;
     let p = group.p;
     let k = h.k;
     let place = first + 4 + 8 * i;
-    let count = Exponent(fields::half(board, at + 4 + 6 * i));
-    let s = fields::as_exponent(board, at + 6 + 6 * i);
     let b = fields::product(board, p, place, size, k);
     let due = group::mul(
         p,
@@ -78,33 +108,58 @@ fn tally(board: &[u8], h: Head, first: usize, size: usize, at: usize, i: usize) 
     }
 }
 
-fn tallies(board: &[u8], h: Head, first: usize, size: usize, at: usize) -> bool
-    requires { ⌜ Known (now board) h × (at + sheetSize (h .n) ≤ length (now board)) × (4 + 8 * h .n ≤ size) × (first + size * h .k ≤ length (now board)) ⌝ }
-    ensures { λ r. ⌜ r ≡ allBelow (h .n) (tallyAt (now (board .entry)) h first size at) ⌝ }
+fn tallies(board: &[u8], h: Head, first: usize, size: usize, sheet: Sheet, s: [Exponent; 8]) -> bool
+    requires { ⌜ Known (now board) h × (4 + 8 * h .n ≤ size) × (first + size * h .k ≤ length (now board)) ⌝ }
+    ensures { λ r. ⌜ r ≡ allBelow (h .n) (λ i. tallyAt (now (board .entry)) h first size i (getD (sheet .counts) i 0) (exponentOf s i)) ⌝ }
 {
     let head = h;
     let n = h.n;
+    let counts = sheet.counts;
+    let exponents = s;
     for i in 0..n {
-        if !tally(board, head, first, size, at, i) {
+        let count = Exponent(counts[i]);
+        if !tally(board, head, first, size, i, count, exponents[i]) {
             return false;
         }
     }
     true
 }
 
-// What a sheet's out field is to hold.
-fn due_out(count: Count, sheet: Sheet, n: usize, k: usize) -> usize
-    requires { ⌜ Kept count × (2 ≤ n) × (n ≤ 8) × (k ≤ 1000) ⌝ }
-    ensures { λ r. ⌜ r ≡ cond (closes n (standingOf n count) (countsOn n sheet) k) 0 (leaves n (standingOf n count) (countsOn n sheet)) ⌝ }
+fn refused(why: Refusal, count: Count) -> Step
+    ensures { λ r. ⌜ (r .outcome ≡ Outcome.Refused why) × (r .count ≡ count) ⌝ }
+{
+    Step {
+        outcome: Outcome::Refused(why),
+        count,
+    }
+}
+
+// What a sheet that passed the tests before comes to, by its out field: 0 where it closes the board, and else the process that leaves.
+fn counted(count: Count, sheet: Sheet, n: usize, k: usize, out: usize) -> Step
+    requires { ⌜ Kept count × (count .gone .outs < 8) × (2 ≤ n) × (n ≤ 8) × (k ≤ 1000) ⌝ }
+    ensures { λ r. ⌜ Stepped n k count (countsOn n sheet) (outFault n k count (countsOn n sheet) out) (r .outcome) (r .count) ⌝ }
 {
     if count.closes(sheet, n, k as u32) {
-        return 0;
+        if out != 0 {
+            return refused(Refusal::Out, count);
+        }
+        return Step {
+            outcome: Outcome::Closed(count.wins(sheet, n)),
+            count,
+        };
     }
-    count.leaves(sheet, n)
+    let leaves = count.leaves(sheet, n);
+    if out != leaves {
+        return refused(Refusal::Out, count);
+    }
+    Step {
+        outcome: Outcome::Open(leaves),
+        count: count.sheet(sheet, leaves),
+    }
 }
 
 // The sheet of round m, whose ballots start at first, size bytes apart.
-pub fn sheet_fault(
+pub fn sheet_step(
     board: &[u8],
     h: Head,
     count: Count,
@@ -112,26 +167,25 @@ pub fn sheet_fault(
     first: usize,
     size: usize,
     at: usize,
-) -> Fault
-    requires { ⌜ Known (now board) h × Kept count × (m < h .n) × (at ≤ length (now board)) ⌝ }
+) -> Step
+    requires { ⌜ Known (now board) h × Kept count × (count .gone .outs ≡ m) × (m < h .n) × (at ≤ length (now board)) ⌝ }
     requires { ⌜ (at ≡ recordAt (h .n) (h .k) m (h .k)) × (first ≡ roundAt (h .n) (h .k) m) × (size ≡ recordLength (h .n) m) ⌝ }
-    ensures { λ r. ⌜ faultNumber r ≡ sheetFault (now (board .entry)) (headOf (now (board .entry)) h) m (due (headOf (now (board .entry)) h) (standingOf (h .n) count) (counts (now (board .entry)) (headOf (now (board .entry)) h) m)) ⌝ }
+    ensures { λ r. ⌜ Stepped (h .n) (h .k) count (counts (now (board .entry)) (headOf (now (board .entry)) h) m) (sheetFault (now (board .entry)) (headOf (now (board .entry)) h) m (due (headOf (now (board .entry)) h) (standingOf (h .n) count) (counts (now (board .entry)) (headOf (now (board .entry)) h) m))) (r .outcome) (r .count) ⌝ }
 {
     let n = h.n;
     let framed = frames::sheet_frame(board, at, n, m + 1);
     if let Fault::Refused(why) = framed {
-        return Fault::Refused(why);
+        return refused(why, count);
     }
-    let walked = sheet_fields(board, h, m, at);
+    let read = sheet_fields(board, h, m, at);
+    let walked = read.fault;
     if let Fault::Refused(why) = walked {
-        return Fault::Refused(why);
+        return refused(why, count);
     }
-    if !tallies(board, h, first, size, at) {
-        return Fault::Refused(Refusal::Tally);
+    let sheet = read.sheet;
+    let s = read.s;
+    if !tallies(board, h, first, size, sheet, s) {
+        return refused(Refusal::Tally, count);
     }
-    let sheet = sheet_counts(board, at, n);
-    if frames::byte(board, at + 3) != due_out(count, sheet, n, h.k) {
-        return Fault::Refused(Refusal::Out);
-    }
-    Fault::Sound
+    counted(count, sheet, n, h.k, frames::byte(board, at + 3))
 }

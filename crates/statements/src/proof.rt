@@ -38,7 +38,7 @@ fn statement_at(
     crate::statement_holds(g.group.p, g.group.g0, g.group.g1, st, t1, t2, e, r)
 }
 
-// A proof: the first failing statement ends the search through branches and statements.
+// A proof: the first failing statement leaves both loops, over branches and statements.
 pub fn proof_holds(
     board: &[u8],
     label: &[u8],
@@ -62,7 +62,7 @@ pub fn proof_holds(
         let from = at + l * (4 + 12 * statements);
         let e = fields::as_exponent(board, from);
         sum = group::add(g.group.q, sum, e);
-        'statements: for i in 0..statements {
+        for i in 0..statements {
             let place = from + 4 + 12 * i;
             if !statement_at(board, inverses, g, n, claim, l, i, place, e) {
                 ok = false;

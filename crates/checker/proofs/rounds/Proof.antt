@@ -1,21 +1,19 @@
 use denote.Ref.{now}
 use Prim.Native.Nat.{ℕ, _+_, _*_, _-_, _≤_}
 use mathlib.Core.Path.{_≡_, sym, _∙_, ap}
-use mathlib.Core.Bool.{false}
 use native.Mathlib.Nat.{sub-zero}
 use native.Mathlib.Omega.{arith}
 use lib.ListN.{length}
 use borrow.Author.Needs.{needs}
 use Rattle.sha256.specs.Message.{sha256}
-use Rattle.rules.specs.Records.{recordAt, sheetLength}
-use Rattle.rules.specs.Count.{start, closes}
-use Rattle.rules.specs.Check.{Verdict, accepted, checkFrom, roundVerdict, counts}
+use Rattle.rules.specs.Count.{start}
+use Rattle.rules.specs.Check.{accepted, checkFrom, counts}
 use Rattle.rules.specs.Answers.{orderOf}
-use Rattle.count.specs.State.{countsOn, standingOf, Kept}
+use Rattle.count.specs.State.{standingOf, Kept}
 use Rattle.count.proofs.Picks.{sheets-many}
 use Rattle.records.specs.Heads.{headOf}
 use Rattle.records.specs.Sizes.{sheetSize}
-use Rattle.records.proofs.SheetTable.{counts-are}
+use Rattle.checker.specs.declared.turns.Round.the-variants.{Open}
 use Rattle.checker.specs.Stages.{Placed}
 use Rattle.checker.specs.Outcomes.{Rounded}
 use Rattle.checker.proofs.RoundPlaces.{sheet-at, sheet-size, placed-first, placed-next}
@@ -39,8 +37,7 @@ loop-holds c =
       placed-first (now (a .board)) (a .h) (c .before .before .before .pre .0),
       c .before .new .ensures .0,
       c .before .new .ensures .1,
-      rw
-          (sub-zero, c .before .new .ensures .2 (a .h .n)),
+      rw (sub-zero, c .before .new .ensures .2 (a .h .n)),
     )
 
 returns : tie.Need-returns Inv-loop μ-loop
@@ -48,10 +45,10 @@ unfolding Rounded
 returns c =
     let a = c .before .before .before .before .before .before .before .before .before .args in
     let l = c .before .before .before .before .before .loop in
+    let t = rw (c .before .before .round .given .1) at (c .before .before .before .before .turn .ensures) in
     let x = ends (now (a .board)) (headOf (now (a .board)) (a .h))
     (checkFrom sha256 (now (a .board)) (headOf (now (a .board)) (a .h)) (a .h .n) start 0 0) (standingOf (a .h .n) (l .count)) (l .stage .m)
-    (l .stage .a) (omega (arith, l .inv .0 .round)) (l .inv .3) _
-    (rw (c .before .before .outcome .given .1) at (c .before .before .before .before .turn .ensures)) in
+    (l .stage .a) (omega (arith, l .inv .0 .round)) (l .inv .3) _ (t .0) in
     (c .refused .ensures .0 ∙ sym x, c .refused .ensures .1 ∙ sym (ap orderOf x))
 
 returns-2 : tie.Need-returns-2 Inv-loop μ-loop
@@ -59,98 +56,59 @@ unfolding Rounded
 returns-2 c =
     let a = c .before .before .before .before .before .before .before .before .before .args in
     let l = c .before .before .before .before .before .loop in
+    let t = rw (c .before .before .round2 .given .1) at (c .before .before .before .before .turn .ensures) in
     let x = ends (now (a .board)) (headOf (now (a .board)) (a .h))
     (checkFrom sha256 (now (a .board)) (headOf (now (a .board)) (a .h)) (a .h .n) start 0 0) (standingOf (a .h .n) (l .count)) (l .stage .m)
-    (l .stage .a) (omega (arith, l .inv .0 .round)) (l .inv .3) _
-    (rw (c .before .before .outcome2 .given .1) at (c .before .before .before .before .turn .ensures)) in (
+    (l .stage .a) (omega (arith, l .inv .0 .round)) (l .inv .3) _ (t .0) in (
       c .accepted .ensures .0
-          ∙ ap (λ (y : ℕ). accepted (y + 1) (standingOf (a .h .n) (l .count) .gone) (c .before .before .outcome2 .given .0 .0)) (l .inv .1) ∙ sym x,
+          ∙ ap (λ (y : ℕ). accepted (y + 1) (standingOf (a .h .n) (l .count) .gone) (c .before .before .round2 .given .0 .0)) (l .inv .1) ∙ sym x,
       c .accepted .ensures .1 ∙ sym (ap orderOf x),
     )
 
--- the round stays open, and its sheet is on the board
-opens : (c : tie.After-enum-told Inv-loop μ-loop) →
-    let a = c .before .before .before .before .before .before .before .args in
-    let l = c .before .before .before .loop in
-    ((after : Verdict) → roundVerdict sha256 (now (a .board)) (headOf (now (a .board)) (a .h)) (standingOf (a .h .n) (l .count)) (l .stage .m)
-    (l .stage .a) after ≡ after)
-    × (closes (a .h .n) (standingOf (a .h .n) (l .count)) (counts (now (a .board)) (headOf (now (a .board)) (a .h)) (l .stage .m)) (a .h .k) ≡ false)
-    × (recordAt (a .h .n) (a .h .k) (l .stage .m) (a .h .k) + sheetLength (a .h .n) ≤ length (now (a .board)))
+-- the round stays open
+opens : (c : tie.After-known-told3 Inv-loop μ-loop) →
+    let a = c .before .before .before .before .before .before .before .before .args in
+    let l = c .before .before .before .before .loop in
+    Rounded (now (a .board)) (a .h) (l .count) (l .stage .m) (l .stage .a) (Open (c .before .round3 .given .0 .0)) (c .before .before .before .turn .result .count)
+opens c = rw (c .before .round3 .given .1) at (c .before .before .before .turn .ensures)
+
+-- and its sheet is on the board
+room : (c : tie.After-known-told3 Inv-loop μ-loop) →
+    let a = c .before .before .before .before .before .before .before .before .args in
+    let l = c .before .before .before .before .loop in l .stage .at + a .h .k * l .stage .size + sheetSize (a .h .n) ≤ length (now (a .board))
 unfolding Rounded
-opens c = rw (c .enum-told .given .1) at (c .before .before .turn .ensures)
-
-placed : (c : tie.After-enum-told Inv-loop μ-loop) →
-    let a = c .before .before .before .before .before .before .before .args in
-    let l = c .before .before .before .loop in l .stage .at + a .h .k * l .stage .size ≡ recordAt (a .h .n) (a .h .k) (l .stage .m) (a .h .k)
-placed c =
-    let a = c .before .before .before .before .before .before .before .args in
-    let l = c .before .before .before .loop in
-    sheet-at (now (a .board)) (a .h) (l .stage) (l .inv .0)
-
-room : (c : tie.After-enum-told Inv-loop μ-loop) →
-    let a = c .before .before .before .before .before .before .before .args in
-    let l = c .before .before .before .loop in l .stage .at + a .h .k * l .stage .size + sheetSize (a .h .n) ≤ length (now (a .board))
-room c = rw (placed c, ← sheet-size (c .before .before .before .before .before .before .before .args .h .n)) (opens c .2)
-
-counts-is : (c : tie.After-sheet-counts Inv-loop μ-loop) →
-    let a = c .before .before .before .before .before .before .before .before .before .before .args in countsOn (a .h .n) (c .sheet-counts .result) ≡
-    counts (now (a .board)) (headOf (now (a .board)) (a .h)) (c .before .before .before .before .before .before .loop .stage .m)
-counts-is c =
-    let a = c .before .before .before .before .before .before .before .before .before .before .args in
-    c .sheet-counts .ensures ∙ sym (counts-are (now (a .board)) (a .h) (c .before .before .before .before .before .before .loop .stage .m) _
-    (placed (c .before .before .before)))
-
-sheet-requires : tie.Need-sheet-requires Inv-loop μ-loop
-sheet-requires c κs =
-    let l = c .before .before .before .before .before .before .before .loop in
-    let high = c .before .before .before .before .before .before .before .before .before .before .before .pre .0 .high in
-    (l .inv .2, omega (arith, l .inv .1, l .inv .0 .round), high)
+room c =
+    let a = c .before .before .before .before .before .before .before .before .args in
+    let l = c .before .before .before .before .loop in
+    rw (sheet-at (now (a .board)) (a .h) (l .stage) (l .inv .0), ← sheet-size (a .h .n)) (opens c .2)
 
 next-requires : tie.Need-next-requires Inv-loop μ-loop
 next-requires c κs =
-    let l = c .before .before .before .before .before .before .before .before .loop in (
-      c .before .before .before .before .before .before .before .before .before .before .before .before .pre .0 .high,
-      omega (arith, l .inv .0 .round),
-      omega (
-        arith,
-        room (c .before .before .before .before .before),
-        c .before .before .before .before .before .before .before .before .before .before .before .before .good,
-      ),
-    )
+    let l = c .before .before .before .before .before .loop in
+    (c .before .before .before .before .before .before .before .before .before .pre .0 .high, omega (arith, l .inv .0 .round), omega (arith, room (c .before), c .before .before .before .before .before .before .before .before .before .good))
 
 loop-again : tie.Need-loop-again Inv-loop μ-loop
+unfolding Rounded
 loop-again c =
-    let a = c .before .before .before .before .before .before .before .before .before .before .before .before .before .args in
-    let l = c .before .before .before .before .before .before .before .before .before .loop in
-    let o = opens (c .before .before .before .before .before .before) in
-    let cs = counts-is (c .before .before .before) in
-    let out = c .before .before .leaves .ensures in
-    rw (c .next .ensures) (
+    let a = c .before .before .before .before .before .before .before .before .before .before .args in
+    let l = c .before .before .before .before .before .before .loop in
+    let o = opens (c .before .before) in
+    rw (c .next2 .ensures) (
       placed-next (now (a .board)) (a .h) (l .stage) (l .inv .0) (standingOf (a .h .n) (l .count))
           (counts (now (a .board)) (headOf (now (a .board)) (a .h)) (l .stage .m))
-          (sheets-many (a .h .n) (l .count) (l .inv .2) ∙ l .inv .1) (o .1) (o .2) (c .before .before .leaves .result)
-          (rw (out .0) (one-leaves (a .h .n) (l .count) _ (l .inv .2) (omega (arith, l .inv .1, l .inv .0 .round)))) (out .1),
-      c .before .sheet .ensures .0 ∙ ap (λ (x : ℕ). x + 1) (l .inv .1),
-      c .before .sheet .ensures .1,
+          (sheets-many (a .h .n) (l .count) (l .inv .2) ∙ l .inv .1) (o .1) (o .2) (c .before .before .before .round3 .given .0 .0)
+          (rw (o .3) (one-leaves (a .h .n) (l .count) _ (l .inv .2) (omega (arith, l .inv .1, l .inv .0 .round)))) (o .4),
+      o .5 ∙ ap (λ (x : ℕ). x + 1) (l .inv .1),
+      o .6,
       goes-on (now (a .board)) (headOf (now (a .board)) (a .h))
           (checkFrom sha256 (now (a .board)) (headOf (now (a .board)) (a .h)) (a .h .n) start 0 0) (standingOf (a .h .n) (l .count)) (l .stage .m)
-          (l .stage .a) (omega (arith, l .inv .0 .round)) (l .inv .3) (o .0) _ _
-          (rw cs at (c .before .sheet .ensures .2)) (rw cs at (out .0)),
+          (l .stage .a) (omega (arith, l .inv .0 .round)) (l .inv .3) (o .0) _ _ (o .7) (o .3),
     )
 
 pub rounds-spec : {M : Type 1} → statement M
 rounds-spec =
     tie.close
     (tie.spec Inv-loop μ-loop (λ c κs. search needs) (λ c κs. c .before .before .pre .0 .high) loop-holds
-    (λ c κs. (c .before .before .before .before .pre .0, c .loop .inv .0, c .loop .inv .2)) (λ c. search needs) (λ c κs. search needs) returns
-    (λ c. search needs) (λ c κs. c .before .before .before .before .loop .inv .2) returns-2 (λ c. search needs)
-    (λ c. omega (arith, room (c .before), c .before .before .before .before .before .before .before .before .good))
-    (λ c. omega (arith, room (c .before .before), c .before .before .before .before .before .before .before .before .before .good))
-    (λ c κs. (c .before .before .before .before .before .before .before .before .before .pre .0 .high, room (c .before .before)))
-    (λ c κs. (
-      c .before .before .before .before .before .before .loop .inv .2,
-      c .before .before .before .before .before .before .before .before .before .before .pre .0 .high,
-    ))
-    sheet-requires next-requires
-    (λ c. rw (c .next .ensures) (omega (arith, c .before .before .before .before .before .before .before .before .before .loop .inv .0 .round)))
-    loop-again)
+    (λ c κs. (c .before .before .before .before .pre .0, c .loop .inv .0, c .loop .inv .2, c .loop .inv .1)) (λ c. search needs) (λ c κs. search needs) returns
+    (λ c. search needs) (λ c κs. c .before .before .before .before .loop .inv .2) returns-2 (λ c. search needs) next-requires
+    (λ c. rw (c .next2 .ensures) (omega (arith, c .before .before .before .before .before .before .loop .inv .0 .round))) loop-again)

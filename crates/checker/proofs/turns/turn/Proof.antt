@@ -1,23 +1,20 @@
 use denote.Ref.{now}
 use Prim.Native.Nat.{_+_, _*_, _≤_, _<_}
-use mathlib.Core.Path.{_≡_, sym, _∙_}
+use mathlib.Core.Path.{_≡_, ap}
 use mathlib.Core.Option.{none, some}
 use native.Mathlib.Omega.{arith}
 use lib.ListN.{length}
 use borrow.Author.Needs.{needs}
 use Rattle.sha256.specs.Message.{sha256}
 use Rattle.rules.specs.Records.{recordAt, sheetLength}
-use Rattle.rules.specs.Count.{closes}
-use Rattle.rules.specs.Check.{faultBelow, recordFault, sheetFault, counts, due}
+use Rattle.rules.specs.Check.{faultBelow, recordFault}
 use Rattle.rules.specs.Answers.{refusalNumber}
-use Rattle.count.specs.State.{countsOn, standingOf}
+use Rattle.records.specs.declared.sheet.Outcome.the-variants as O
 use Rattle.records.specs.Heads.{headOf}
 use Rattle.records.specs.Sizes.{sheetSize}
-use Rattle.records.proofs.SheetTable.{counts-are}
-use Rattle.checker.specs.Outcomes.{Searched, Rounded}
-use Rattle.checker.proofs.FirstFault.{positive, sheet-fits}
+use Rattle.checker.specs.Outcomes.{Searched}
 use Rattle.checker.proofs.RoundPlaces.{sheet-at, sheet-size}
-use Rattle.checker.proofs.RoundEnds.{ballot-refused, sheet-refused, stays-open, closed, remains}
+use Rattle.checker.proofs.RoundEnds.{Stepping, by-ballot, by-sheet, closing-fits, by-end, by-rest, by-next}
 use Rattle.checker.proofs.turns.turn.Statement.{statement}
 use Rattle.checker.proofs.turns.turn.Tie as tie
 
@@ -50,41 +47,14 @@ ends : (c : tie.After-enum-told) →
     a .stage .at + a .h .k * a .stage .size + sheetSize (a .h .n) ≡ recordAt (a .h .n) (a .h .k) (a .stage .m) (a .h .k) + sheetLength (a .h .n)
 ends c = rw (placed c, sheet-size (c .before .before .before .before .args .h .n))
 
-small : (c : tie.After-enum-told) →
-    let a = c .before .before .before .before .args in a .stage .at + a .h .k * a .stage .size ≤ length (now (a .board))
+small : (c : tie.After-enum-told) → let a = c .before .before .before .before .args in a .stage .at + a .h .k * a .stage .size ≤ length (now (a .board))
 small c = rw (placed c) (none-found c .1)
 
--- the sheet has no fault
-fine : (c : tie.After-enum-told2) →
-    let a = c .before .before .before .before .before .before .before .before .before .args in
-    let H = headOf (now (a .board)) (a .h) in
-    0 ≡ sheetFault (now (a .board)) H (a .stage .m) (due H (standingOf (a .h .n) (a .count)) (counts (now (a .board)) H (a .stage .m)))
-fine c = rw (c .enum-told2 .given .1) at (c .before .before .sheet-fault .ensures)
-
-fits-there : (c : tie.After-enum-told2) →
-    let a = c .before .before .before .before .before .before .before .before .before .args in recordAt (a .h .n) (a .h .k) (a .stage .m) (a .h .k) +
-    sheetLength (a .h .n) ≤ length (now (a .board))
-fits-there c =
-    let a = c .before .before .before .before .before .before .before .before .before .args in
-    sheet-fits (now (a .board)) (headOf (now (a .board)) (a .h)) (a .stage .m) _ (sym (fine c))
-
-room : (c : tie.After-enum-told2) →
-    let a = c .before .before .before .before .before .before .before .before .before .args in a .stage .at + a .h .k * a .stage .size + sheetSize
-    (a .h .n) ≤ length (now (a .board))
-room c = rw (ends (c .before .before .before .before .before)) (fits-there c)
-
-counts-is : (c : tie.After-sheet-counts) →
-    let a = c .before .before .before .before .before .before .before .before .before .before .args in
-    countsOn (a .h .n) (c .sheet-counts .result) ≡ counts (now (a .board)) (headOf (now (a .board)) (a .h)) (a .stage .m)
-counts-is c =
-    let a = c .before .before .before .before .before .before .before .before .before .before .args in
-    c .sheet-counts .ensures ∙ sym (counts-are (now (a .board)) (a .h) (a .stage .m) _ (placed (c .before .before .before .before .before .before)))
-
-closing : (c : tie.After-closes) →
-    let a = c .before .before .before .before .before .before .before .before .before .before .before .args in
-    closes (a .h .n) (standingOf (a .h .n) (a .count)) (counts (now (a .board)) (headOf (now (a .board)) (a .h)) (a .stage .m)) (a .h .k) ≡
-    c .closes .result
-closing c = rw (← counts-is (c .before)) (sym (c .closes .ensures))
+-- what the sheet tells where it closes the board
+closing : (c : tie.After-known-told3) →
+    let a = c .before .before .before .before .before .before .before .before .before .before .before .before .args in
+    Stepping (now (a .board)) (a .h) (a .count) (a .stage .m) (a .stage .a) (O.Closed (c .before .outcome2 .given .0 .0)) (c .before .before .before .before .before .sheet-step .result .count)
+closing c = rw (c .before .outcome2 .given .1) at (c .before .before .before .before .before .sheet-step .ensures)
 
 record-number-requires : tie.Need-record-number-requires
 record-number-requires c κs =
@@ -92,92 +62,58 @@ record-number-requires c κs =
     (pre .0 .few, omega (arith, pre .0 .high, pre .1 .round), omega (arith, refused c .0))
 
 returns : tie.Need-returns
-unfolding Rounded
 returns c =
-    let a = c .before .before .before .before .before .before .args in
-    λ after. rw (c .record-number .ensures .0) (ballot-refused (now (a .board)) (headOf (now (a .board)) (a .h)) (standingOf (a .h .n) (a .count))
-    (a .stage .m) (a .stage .a) after
-    _ _ (refused (c .before) .1))
+    let a = c .before .before .before .before .before .before .before .args in
+    rw (c .refused .ensures .0, c .refused .ensures .1)
+    (by-ballot (now (a .board)) (a .h) (a .count) (a .stage .m) (a .stage .a) _ _ _ (refused (c .before .before) .1) (c .before .record-number .ensures .0))
 
-sheet-fault-requires : tie.Need-sheet-fault-requires
-sheet-fault-requires c κs =
+sheet-step-requires : tie.Need-sheet-step-requires
+sheet-step-requires c κs =
     let pre = c .before .before .before .before .before .before .pre in
-    ((pre .0, pre .2, omega (arith, pre .1 .round), small (c .before .before)), (placed (c .before .before), pre .1 .here, pre .1 .sized))
+    ((pre .0, pre .2, pre .3, omega (arith, pre .1 .round), small (c .before .before)), (placed (c .before .before), pre .1 .here, pre .1 .sized))
+
+add-if1-2 : tie.Need-add-if1-2
+add-if1-2 c =
+    let a = c .before .before .before .before .before .before .before .before .before .before .before .before .args in
+    let e = c .before .before .before .before .before .before .before .before in
+    omega (
+      arith,
+      closing-fits (now (a .board)) (a .h) (a .count) (a .stage .m) (a .stage .a) (none-found e .0) _ _ (closing c),
+      ends e,
+      c .before .before .before .before .before .before .before .before .before .before .before .before .good,
+    )
 
 returns-2 : tie.Need-returns-2
-unfolding Rounded
 returns-2 c =
-    let a = c .before .before .before .before .before .before .before .before .before .before .before .args in
-    λ after.
-    rw (c .record-number2 .ensures .0)
-    (sheet-refused (now (a .board)) (headOf (now (a .board)) (a .h)) (standingOf (a .h .n) (a .count)) (a .stage .m) (a .stage .a) after
-    (none-found (c .before .before .before .before .before .before .before) .0) _
-    (rw (c .before .before .fault .given .1) at (c .before .before .before .before .sheet-fault .ensures))
-    (positive (c .before .before .fault .given .0 .0)))
+    let a = c .before .before .before .before .before .before .before .before .before .before .before .before .before .before .args in
+    let e = c .before .before .before .before .before .before .before .before .before .before in
+    rw (c .refused3 .ensures .0, c .refused3 .ensures .1)
+    (by-rest (now (a .board)) (a .h) (a .count) (a .stage .m) (a .stage .a) (none-found e .0) _ _ (closing (c .before .before)) _ (λ l. omega (arith, ends e))
+    (ap (λ n. n + 1) (c .before .before .before .before .before .record-number2 .ensures .0)))
 
 returns-3 : tie.Need-returns-3
-unfolding Rounded
 returns-3 c =
-    let a = c .before .before .before .before .before .before .before .before .before .before .before .before .before .before .args in
-    λ after.
-    closed (now (a .board)) (headOf (now (a .board)) (a .h)) (standingOf (a .h .n) (a .count)) (a .stage .m) (a .stage .a) after
-    (none-found (c .before .before .before .before .before .before .before .before .before .before) .0)
-    (fine (c .before .before .before .before .before)) (closing (c .before .before .before) ∙ c .before .before .if1 .taken) _
-    (omega (arith, ends (c .before .before .before .before .before .before .before .before .before .before)))
-    (rw (← counts-is (c .before .before .before .before)) (c .wins .ensures .0))
+    let a = c .before .before .before .before .before .before .before .before .before .before .before .before .before .args in
+    rw (c .refused2 .ensures .0, c .refused2 .ensures .1)
+    (by-sheet (now (a .board)) (a .h) (a .count) (a .stage .m) (a .stage .a) (none-found (c .before .before .before .before .before .before .before .before .before) .0) _ _ _
+    (rw (c .before .before .outcome .given .1) at (c .before .before .before .before .before .before .sheet-step .ensures)) (c .before .before .before .before .record-number2 .ensures .0))
 
 returns-4 : tie.Need-returns-4
-unfolding Rounded
 returns-4 c =
-    let a = c .before .before .before .before .before .before .before .before .before .before .before .before .before .before .args in
-    λ after.
-    rw (c .record-number3 .ensures .0)
-    (remains (now (a .board)) (headOf (now (a .board)) (a .h)) (standingOf (a .h .n) (a .count)) (a .stage .m) (a .stage .a) after
-    (none-found (c .before .before .before .before .before .before .before .before .before .before) .0)
-    (fine (c .before .before .before .before .before)) (closing (c .before .before .before) ∙ c .before .before .if1 .taken)
-    (λ e. omega (arith, ends (c .before .before .before .before .before .before .before .before .before .before))))
+    let a = c .before .before .before .before .before .before .before .before .before .before .before .before .before .args in
+    let e = c .before .before .before .before .before .before .before .before .before in
+    by-end (now (a .board)) (a .h) (a .count) (a .stage .m) (a .stage .a) (none-found e .0) _ _ (closing (c .before)) (omega (arith, ends e))
 
 returns-5 : tie.Need-returns-5
-unfolding Rounded
 returns-5 c =
     let a = c .before .before .before .before .before .before .before .before .before .before .before .before .args in
-    let open-still = closing (c .before) ∙ c .if1 .left in (
-      λ after. stays-open (now (a .board)) (headOf (now (a .board)) (a .h)) (standingOf (a .h .n) (a .count)) (a .stage .m) (a .stage .a) after
-          (none-found (c .before .before .before .before .before .before .before .before) .0) (fine (c .before .before .before)) open-still,
-      open-still,
-      fits-there (c .before .before .before),
-    )
+    by-next (now (a .board)) (a .h) (a .count) (a .stage .m) (a .stage .a) (none-found (c .before .before .before .before .before .before .before .before) .0) _ _
+    (rw (c .before .outcome3 .given .1) at (c .before .before .before .before .before .sheet-step .ensures))
 
 pub turn-spec : {M : Type 1} → statement M
 turn-spec =
     tie.close
-    (tie.spec (λ c κs. search needs) (λ c. search needs) record-number-requires returns (λ c. search needs)
-    (λ c. omega (arith, small (c .before), c .before .before .before .before .before .good))
-    (λ c. omega (arith, small (c .before .before), c .before .before .before .before .before .before .good)) sheet-fault-requires (λ c. search needs)
-    (λ c κs. (
-      c .before .before .before .before .before .before .before .before .before .before .pre .0 .few,
-      omega (
-        arith,
-        c .before .before .before .before .before .before .before .before .before .before .pre .0 .high,
-        c .before .before .before .before .before .before .before .before .before .before .pre .1 .round,
-      ),
-      omega arith,
-    ))
-    returns-2 (λ c. search needs) (λ c κs. (c .before .before .before .before .before .before .before .before .before .pre .0 .high, room c))
-    (λ c. search needs) (λ c κs. search needs) (λ c. search needs) (λ c. search needs)
-    (λ c. omega (
-      arith,
-      room (c .before .before .before),
-      c .before .before .before .before .before .before .before .before .before .before .before .before .good,
-    ))
-    (λ c κs. search needs) returns-3
-    (λ c κs. (
-      c .before .before .before .before .before .before .before .before .before .before .before .before .before .pre .0 .few,
-      omega (
-        arith,
-        c .before .before .before .before .before .before .before .before .before .before .before .before .before .pre .0 .high,
-        c .before .before .before .before .before .before .before .before .before .before .before .before .before .pre .1 .round,
-      ),
-      omega arith,
-    ))
-    (λ c. omega (arith, c .record-number3 .ensures .1)) returns-4 returns-5)
+    (tie.spec (λ c κs. search needs) (λ c. search needs) record-number-requires (λ c κs. search needs) returns (λ c. search needs)
+    (λ c. omega (arith, small (c .before), c .before .before .before .before .before .good)) (λ c. omega (arith, small (c .before .before), c .before .before .before .before .before .before .good)) sheet-step-requires
+    (λ c κs. search needs) (λ c. search needs) (λ c κs. search needs) (λ c. search needs) (λ c. search needs) (λ c. search needs) add-if1-2
+    (λ c. search needs) (λ c κs. search needs) returns-2 (λ c. search needs) returns-3 returns-4 returns-5)

@@ -1,4 +1,3 @@
-use Prim.Native.Nat.{_-_}
 use mathlib.Core.Path.{refl}
 use Rattle.count.proofs.Picks.{kept-next, standing-next}
 use borrow.Author.Needs.{needs}
@@ -7,14 +6,10 @@ use Rattle.count.proofs.Count.sheet.Tie as tie
 
 returns : tie.Need-returns
 returns c =
-    let a = c .before .before .before .before .args in
-    let k = c .before .before .before .before .pre in (
-      refl,
-      kept-next (a .n) (a .self) (a .sheet) _ (k .0) (k .1),
-      standing-next (a .n) (a .self) (a .sheet) _ (k .0) (k .1) (c .before .before .before .leaves .ensures .0),
-    )
+    let a = c .before .before .before .args in
+    let k = c .before .before .before .pre in
+    (refl, kept-next 0 (a .self) (a .sheet) _ (k .0) (k .1), λ n. standing-next n (a .self) (a .sheet) _ (k .0) (k .1))
 
 pub sheet-spec : {M : Type 1} → statement M
 sheet-spec =
-    tie.close
-    (tie.spec (λ c κs. search needs) (λ c. search needs) (λ c. search needs) (λ c. search needs) (λ c. search needs) (λ c. search needs) returns)
+    tie.close (tie.spec (λ c. search needs) (λ c. search needs) (λ c. search needs) (λ c. search needs) (λ c. search needs) returns)

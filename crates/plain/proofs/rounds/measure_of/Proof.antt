@@ -50,21 +50,21 @@ returns c =
 
 loop-again : tie.Need-loop-again Inv-loop μ-loop
 loop-again c =
-    let l = c .before .before .before .before .before .before .before .loop in
-    let s = c .before .before .before .before .before .before .before .before .before .before in
+    let l = c .before .before .before .before .before .before .before .before .loop in
+    let s = c .before .before .before .before .before .before .before .before .before .before .before in
     let f = s .args in
     let h = c .sheet .ensures in
-    let no = sym (c .before .before .closes .ensures) ∙ c .before .if1 .left in
+    let no = sym (c .before .before .before .closes .ensures) ∙ c .before .before .if1 .left in
     let last = not-last (f .n) (standingOf (f .n) (l .count)) _ (f .k) (l .rounds) no (sheets-many (f .n) (l .count) (l .inv .0) ∙ l .inv .1) in
     let few : f .k ≤ 1000 = omega (arith, s .pre) in (
       h .1,
       h .0 ∙ ap (λ (x : ℕ). x + 1) (l .inv .1),
       far (l .rounds) (f .n) (l .inv .2) last,
-      omega (arith, at-most (f .k) (c .before .before .before .before .record-draws .result) few, c .before .before .before .before .record-draws .ensures .1, l .inv .3),
-      omega (arith, at-most (f .k) (c .before .before .before .record-length .result) few, c .before .before .before .record-length .ensures .1, l .inv .4, s .pre),
-      draws-more (f .n) (f .k) (l .rounds) (l .needed) _ (l .inv .5) (c .before .before .before .before .record-draws .ensures .0),
-      length-more (f .n) (f .k) (l .rounds) (l .length) _ (l .inv .6) (c .before .before .before .record-length .ensures .0),
-      count-goes (f .n) (f .k) (λ b. part (now (f .rankings)) (b * f .n) (f .n)) (l .count) (l .rounds) _ (omega (arith, l .inv .2)) (l .inv .7) (c .before .before .before .before .before .tally .ensures) no ∙ rw (h .2),
+      omega (arith, at-most (f .k) (c .before .before .before .before .before .record-draws .result) few, c .before .before .before .before .before .record-draws .ensures .1, l .inv .3),
+      omega (arith, at-most (f .k) (c .before .before .before .before .record-length .result) few, c .before .before .before .before .record-length .ensures .1, l .inv .4, s .pre),
+      draws-more (f .n) (f .k) (l .rounds) (l .needed) _ (l .inv .5) (c .before .before .before .before .before .record-draws .ensures .0),
+      length-more (f .n) (f .k) (l .rounds) (l .length) _ (l .inv .6) (c .before .before .before .before .record-length .ensures .0),
+      count-goes (f .n) (f .k) (λ b. part (now (f .rankings)) (b * f .n) (f .n)) (l .count) (l .rounds) _ (omega (arith, l .inv .2)) (l .inv .7) (c .before .before .before .before .before .before .tally .ensures) no ∙ rw (h .2 (f .n), c .before .leaves .ensures .0),
     )
 
 pub measure-of-spec : {M : Type 1} → statement M
@@ -90,6 +90,7 @@ measure-of-spec =
     (λ c κs. let s = c .before .before .before .before .before .before .before in (c .before .before .before .before .loop .inv .0, omega (arith, s .pre), omega (arith, s .pre)))
     (λ c κs. let s = c .before .before .before .before .before .before .before .before .before in (c .before .before .before .before .before .before .loop .inv .0, omega (arith, s .pre)))
     returns
-    (λ c κs. let s = c .before .before .before .before .before .before .before .before .before in let l = c .before .before .before .before .before .before .loop in (l .inv .0, omega (arith, l .inv .1, l .inv .2, s .pre), omega (arith, s .pre)))
-    (λ c. omega (arith, c .before .before .before .before .before .before .before .loop .inv .2))
+    (λ c κs. let s = c .before .before .before .before .before .before .before .before .before in (c .before .before .before .before .before .before .loop .inv .0, omega (arith, s .pre)))
+    (λ c κs. let s = c .before .before .before .before .before .before .before .before .before .before in let l = c .before .before .before .before .before .before .before .loop in (l .inv .0, omega (arith, l .inv .1, l .inv .2, s .pre), omega (arith, c .leaves .ensures .1, s .pre)))
+    (λ c. omega (arith, c .before .before .before .before .before .before .before .before .loop .inv .2))
     loop-again)

@@ -16,23 +16,17 @@ column-fits c j l =
     let a = c .before .before .args in
     let pre = c .before .before .pre in
     let x : (j + 1) * a .size ≤ a .h .k * a .size = mul-le-mul-right (a .size) (omega arith) in
-    omega (arith, pre .1, pre .3, pre .4)
+    omega (arith, pre .1, pre .2, pre .3)
 
 product-requires : tie.Need-product-requires
-product-requires c κs = (c .before .before .before .before .pre .0 .ready .p-pos, λ j l. omega (arith, column-fits (c .before .before) j l))
+product-requires c κs = (c .before .before .pre .0 .ready .p-pos, λ j l. omega (arith, column-fits c j l))
 
 product-requires-2 : tie.Need-product-requires-2
-product-requires-2 c κs = (
-  c .before .before .before .before .before .before .before .before .before .before .before .pre .0 .ready .p-pos,
-  λ j l. column-fits
-      (c .before .before .before .before .before .before .before .before .before) j l,
-)
+product-requires-2 c κs = (c .before .before .before .before .before .before .before .before .before .pre .0 .ready .p-pos, λ j l. column-fits (c .before .before .before .before .before .before .before) j l)
 
 returns : tie.Need-returns
 returns c =
     rw (
-      ← c .before .before .before .before .before .before .before .before .before .before .before .before .half .ensures,
-      ← c .before .before .before .before .before .before .before .before .before .before .before .as-exponent .ensures,
       ← c .before .before .before .before .before .before .before .before .before .before .product .ensures,
       ← c .before .before .before .before .before .before .before .before .before .pow .ensures,
       ← c .before .before .before .before .before .before .before .before .pow2 .ensures,
@@ -45,8 +39,6 @@ returns c =
 returns-2 : tie.Need-returns-2
 returns-2 c =
     rw (
-      ← c .before .before .before .before .before .before .before .before .half .ensures,
-      ← c .before .before .before .before .before .before .before .as-exponent .ensures,
       ← c .before .before .before .before .before .before .product .ensures,
       ← c .before .before .before .before .before .pow .ensures,
       ← c .before .before .before .before .pow2 .ensures,
@@ -57,8 +49,5 @@ returns-2 c =
 pub tally-spec : {M : Type 1} → statement M
 tally-spec =
     tie.close
-    (tie.spec (λ c. search needs) (λ c. search needs) (λ c. search needs) (λ c. search needs) (λ c. search needs) (λ c. search needs)
-    (λ c κs. search needs) (λ c. search needs) (λ c. search needs) (λ c. search needs) (λ c κs. search needs) product-requires (λ c κs. search needs)
-    (λ c κs. search needs) (λ c κs. search needs) (λ c. search needs) product-requires-2
-    (λ c κs. c .before .before .before .before .before .before .before .before .before .before .before .before .pre .0 .ready .p-pos) returns
-    returns-2)
+    (tie.spec (λ c. search needs) (λ c. search needs) (λ c. search needs) product-requires (λ c κs. search needs) (λ c κs. search needs)
+    (λ c κs. search needs) (λ c. search needs) product-requires-2 (λ c κs. search needs) returns returns-2)

@@ -21,14 +21,14 @@ use Rattle.statements.proofs.Branches.{here, branchHere, piece, pieces,
 use Rattle.statements.proofs.proof.proof_holds.Statement.{statement}
 use Rattle.statements.proofs.proof.proof_holds.Tie as tie
 
-abbrev Inv-statements : tie.InvT-statements
-Inv-statements board label inverses at branches statements g n claim h₀ sum ok₀ l from e i₀ h ok i =
+abbrev Inv-loop : tie.InvT-loop
+Inv-loop board label inverses at branches statements g n claim h₀ sum ok₀ l from e i₀ h ok i =
     (i ≤ statements) × (ok ≡ true)
     × (allBelow i (here board (parametersOf (g .group)) (claimOf board (parametersOf (g .group)) n claim) at statements l) ≡ true)
     × Fed h ((label ++ blocks l (pieces board at statements)) ++ blocks i (piece board at statements l))
 
-abbrev μ-statements : tie.MeasureT-statements
-μ-statements board label inverses at branches statements g n claim h₀ sum ok₀ l from e i₀ h ok i = statements - i
+abbrev μ-loop : tie.MeasureT-loop
+μ-loop board label inverses at branches statements g n claim h₀ sum ok₀ l from e i₀ h ok i = statements - i
 
 abbrev Inv-branches : tie.InvT-branches
 Inv-branches board label inverses at branches statements g n claim h₀ sum₀ ok₀ l₀ h sum ok l =
@@ -39,14 +39,14 @@ Inv-branches board label inverses at branches statements g n claim h₀ sum₀ o
 abbrev μ-branches : tie.MeasureT-branches
 μ-branches board label inverses at branches statements g n claim h₀ sum₀ ok₀ l₀ h sum ok l = branches - l
 
-branches-holds : tie.Need-branches-holds Inv-statements μ-statements Inv-branches μ-branches
+branches-holds : tie.Need-branches-holds Inv-loop μ-loop Inv-branches μ-branches
 unfolding sumBelow
 branches-holds c =
     let a = c .before .before .before .before .before .args in
     (omega arith, refl, all-none _, sym (zero-mod (a .g .group .q)), rw nothing-more (c .update .ensures _ (c .before .new .ensures)))
 
 -- the branch is on the board, and so is the statement
-branch-fits : (c : tie.In-branches Inv-statements μ-statements Inv-branches μ-branches) →
+branch-fits : (c : tie.In-branches Inv-loop μ-loop Inv-branches μ-branches) →
     let a = c .before .before .before .before .before .before .before .args in
     (branchAt (a .at) (a .statements) (c .before .branches .l) + (4 + 12 * a .statements) ≤ length (now (a .board))) ×
     (length (now (a .board)) < 2 ^ 64)
@@ -57,76 +57,76 @@ branch-fits c =
       omega (arith, c .before .before .before .before .before .before .before .good),
     )
 
-fits : (c : tie.In-statements Inv-statements μ-statements Inv-branches μ-branches) →
+fits : (c : tie.In-loop Inv-loop μ-loop Inv-branches μ-branches) →
     let a = c .before .before .before .before .before .before .before .before .before .before .before .args in
-    (statementAt (a .at) (a .statements) (c .before .before .before .before .before .branches .l) (c .before .statements .i) + 12 ≤ length
+    (statementAt (a .at) (a .statements) (c .before .before .before .before .before .branches .l) (c .before .loop .i) + 12 ≤ length
     (now (a .board))) × (length (now (a .board)) < 2 ^ 64)
 fits c =
     let a = c .before .before .before .before .before .before .before .before .before .before .before .args in (
-      within (a .at) (a .branches) (a .statements) (c .before .before .before .before .before .branches .l) (c .before .statements .i)
+      within (a .at) (a .branches) (a .statements) (c .before .before .before .before .before .branches .l) (c .before .loop .i)
           (length (now (a .board)))
           (c .before .before .before .before .before .before .before .before .before .before .before .pre .1 .0)
-          (c .before .before .before .before .branches-test .taken) (c .statements-test .taken),
+          (c .before .before .before .before .branches-test .taken) (c .loop-test .taken),
       omega (arith, c .before .before .before .before .before .before .before .before .before .before .before .good),
     )
 
-statements-holds : tie.Need-statements-holds Inv-statements μ-statements Inv-branches μ-branches
-statements-holds c =
+loop-holds : tie.Need-loop-holds Inv-loop μ-loop Inv-branches μ-branches
+loop-holds c =
     let o = c .before .before .before .branches in
     (omega arith, o .inv .1, all-none _, rw nothing-more (o .inv .4))
 
-statement-at-requires : tie.Need-statement-at-requires Inv-statements μ-statements Inv-branches μ-branches
+statement-at-requires : tie.Need-statement-at-requires Inv-loop μ-loop Inv-branches μ-branches
 statement-at-requires c κs =
     let pre = c .before .before .before .before .before .before .before .before .before .before .before .pre in (
       pre .0,
       (
         fits c .0,
-        pre .1 .1 (c .before .before .before .before .before .branches .l) (c .before .statements .i)
-            (c .before .before .before .before .branches-test .taken) (c .statements-test .taken),
+        pre .1 .1 (c .before .before .before .before .before .branches .l) (c .before .loop .i)
+            (c .before .before .before .before .branches-test .taken) (c .loop-test .taken),
       ),
     )
 
 -- what the callee says, at the statement's number
-this : (c : tie.After-statement-at Inv-statements μ-statements Inv-branches μ-branches) →
+this : (c : tie.After-statement-at Inv-loop μ-loop Inv-branches μ-branches) →
     let a = c .before .before .before .before .before .before .before .before .before .before .before .before .args in
     c .statement-at .result
     ≡ here (now (a .board)) (parametersOf (a .g .group)) (claimOf (now (a .board)) (parametersOf (a .g .group)) (a .n) (a .claim)) (a .at)
     (a .statements)
-    (c .before .before .before .before .before .before .branches .l) (c .before .before .statements .i)
+    (c .before .before .before .before .before .before .branches .l) (c .before .before .loop .i)
 this c = rw (← c .before .before .before .before .as-exponent .ensures) (c .statement-at .ensures)
 
-add-i : tie.Need-add-i Inv-statements μ-statements Inv-branches μ-branches
+add-i : tie.Need-add-i Inv-loop μ-loop Inv-branches μ-branches
 add-i c =
-    omega (arith, c .before .before .before .before .before .before .before .before .before .before .before .before .before .before .before .fits .statements, c .before .before .before .before .statements-test .taken)
+    omega (arith, c .before .before .before .before .before .before .before .before .before .before .before .before .before .before .before .fits .statements, c .before .before .before .before .loop-test .taken)
 
-statements-again : tie.Need-statements-again Inv-statements μ-statements Inv-branches μ-branches
-statements-again c =
+loop-again : tie.Need-loop-again Inv-loop μ-loop Inv-branches μ-branches
+loop-again c =
     let a = c .before .before .before .before .before .before .before .before .before .before .before .before .before .before .before .args in
     let o = c .before .before .before .before .before .before .before .before .before .branches in
-    let t = c .before .before .before .before .before .statements in (
-      omega (arith, c .before .before .before .before .statements-test .taken),
+    let t = c .before .before .before .before .before .loop in (
+      omega (arith, c .before .before .before .before .loop-test .taken),
       t .inv .1,
       all-more _ _ (t .inv .2) (sym (this (c .before .before .before)) ∙ not-false _ (c .before .before .if1 .left)),
       fed-more (c .update2 .result) (now (a .label) ++ blocks (o .l) (pieces (now (a .board)) (a .at) (a .statements))) (now (a .board)) (a .at)
           (a .statements) (o .l) (t .i) (c .update2 .ensures _ (t .inv .3)),
     )
 
-branches-again : tie.Need-branches-again Inv-statements μ-statements Inv-branches μ-branches
+branches-again : tie.Need-branches-again Inv-loop μ-loop Inv-branches μ-branches
 branches-again c =
     let a = c .before .before .before .before .before .before .before .before .before .before .before .args in
     let o = c .before .before .before .before .before .branches in
-    let t = c .before .statements in
+    let t = c .before .loop in
     let e : t .i ≡ a .statements = omega arith in (
       omega arith,
       t .inv .1,
-      all-more _ _ (o .inv .2) (all-end _ _ _ (t .inv .0) (c .statements-test .left) (t .inv .2)),
+      all-more _ _ (o .inv .2) (all-end _ _ _ (t .inv .0) (c .loop-test .left) (t .inv .2)),
       sum-more (a .g .group .q) _ _ _ (o .l) (challenges (now (a .board)) (a .at) (a .statements)) (o .inv .3)
           (c .before .before .before .as-exponent .ensures) (c .before .before .add .ensures),
       fed-branch (t .h) (now (a .label)) (now (a .board)) (a .at) (a .statements) (o .l) (t .i) e (t .inv .3),
     )
 
 -- what holds where the loops end without a failing statement
-record Done (c : tie.Left-branches Inv-statements μ-statements Inv-branches μ-branches) : Type 0 where
+record Done (c : tie.Left-branches Inv-loop μ-loop Inv-branches μ-branches) : Type 0 where
   pub all :
       let a = c .before .before .before .before .before .before .before .args in
       allBelow (a .branches) (branchHere (now (a .board)) (parametersOf (a .g .group))
@@ -140,7 +140,7 @@ record Done (c : tie.Left-branches Inv-statements μ-statements Inv-branches μ-
       Fed (c .branches-test .h) (now (a .label) ++ blocks (a .branches) (pieces (now (a .board)) (a .at) (a .statements)))
 
 -- where the ways out of the loops meet
-after : (c : tie.Left-branches Inv-statements μ-statements Inv-branches μ-branches) →
+after : (c : tie.Left-branches Inv-loop μ-loop Inv-branches μ-branches) →
     let a = c .before .before .before .before .before .before .before .args in
     (c .branches-test .ok ≡ true → Done c)
     × (c .branches-test .ok ≡ false →
@@ -168,16 +168,16 @@ after c =
             before = record {
               before = record {
                 before = record { before = record { before = record { before = c .before; branches-test = w .0 }; as-exponent = w .1 }; add = w .2 };
-                statements = w .3;
+                loop = w .3;
               };
-              statements-test = w .4;
+              loop-test = w .4;
             };
             statement-at = w .5;
           })) ∙ not-true _ (w .6 .taken)),
     ))
     (c .branches-test .came)
 
-returns-2 : tie.Need-returns-2 Inv-statements μ-statements Inv-branches μ-branches
+returns-2 : tie.Need-returns-2 Inv-loop μ-loop Inv-branches μ-branches
 returns-2 c =
     let a = c .before .before .before .before .before .before .before .before .before .before .before .before .before .args in
     let k = after (c .before .before .before .before .before .before) .0 (not-false _ (c .before .before .before .before .before .if2 .left)) in
@@ -189,10 +189,10 @@ returns-2 c =
 pub proof-holds-spec : {M : Type 1} → statement M
 proof-holds-spec =
     tie.close
-    (tie.spec Inv-statements μ-statements Inv-branches μ-branches (λ c κs. search needs) (λ c κs. search needs) branches-holds
+    (tie.spec Inv-loop μ-loop Inv-branches μ-branches (λ c κs. search needs) (λ c κs. search needs) branches-holds
     (λ c. omega (arith, branch-fits c)) (λ c. omega (arith, branch-fits c)) (λ c. omega (arith, branch-fits c)) (λ c. omega (arith, branch-fits c))
-    (λ c κs. omega (arith, branch-fits c)) (λ c κs. search needs) statements-holds (λ c. omega (arith, fits c)) (λ c. omega (arith, fits c))
+    (λ c κs. omega (arith, branch-fits c)) (λ c κs. search needs) loop-holds (λ c. omega (arith, fits c)) (λ c. omega (arith, fits c))
     (λ c. omega (arith, fits c)) statement-at-requires (λ c. omega (arith, fits (c .before .before))) (λ c. omega (arith, fits (c .before .before)))
     (λ c. omega (arith, fits (c .before .before))) (λ c. omega (arith, fits (c .before .before))) (λ c κs. search needs) add-i (λ c. omega arith)
-    statements-again (λ c. omega arith) (λ c. omega arith) branches-again (λ c. after (c .before) .1 (not-true _ (c .if2 .taken)))
+    loop-again (λ c. omega arith) (λ c. omega arith) branches-again (λ c. after (c .before) .1 (not-true _ (c .if2 .taken)))
     (λ c κs. search needs) (λ c κs. search needs) returns-2)

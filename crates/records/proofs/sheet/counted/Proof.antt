@@ -1,0 +1,41 @@
+use mathlib.Core.Path.{sym, _∙_}
+use native.Mathlib.Omega.{arith}
+use borrow.Author.Needs.{needs}
+use Rattle.records.proofs.SheetSteps.{due-closed, due-open, wrong-out, closed, opened}
+use Rattle.records.proofs.sheet.counted.Statement.{statement}
+use Rattle.records.proofs.sheet.counted.Tie as tie
+
+returns : tie.Need-returns
+returns c =
+    let a = c .before .before .before .before .args in
+    let e = sym (c .before .before .before .closes .ensures) ∙ c .before .before .if1 .taken in
+    rw (c .refused .ensures .0, c .refused .ensures .1)
+    (wrong-out (a .n) (a .k) (a .count) _ (a .out) 0 (due-closed (a .n) (a .k) (a .count) _ e) (λ z. omega arith))
+
+returns-2 : tie.Need-returns-2
+returns-2 c =
+    let a = c .before .before .before .before .args in
+    closed (a .n) (a .k) (a .count) _ (a .out) (sym (c .before .before .before .closes .ensures) ∙ c .before .before .if1 .taken) (omega arith)
+    _ (c .wins .ensures .0)
+
+returns-3 : tie.Need-returns-3
+returns-3 c =
+    let a = c .before .before .before .before .before .args in
+    let e = sym (c .before .before .before .before .closes .ensures) ∙ c .before .before .before .if1 .left in
+    rw (c .refused2 .ensures .0, c .refused2 .ensures .1)
+    (wrong-out (a .n) (a .k) (a .count) _ (a .out) _ (due-open (a .n) (a .k) (a .count) _ e _ (c .before .before .leaves .ensures .0))
+    (λ z. omega arith))
+
+returns-4 : tie.Need-returns-4
+returns-4 c =
+    let a = c .before .before .before .before .before .args in
+    let e = sym (c .before .before .before .before .closes .ensures) ∙ c .before .before .before .if1 .left in
+    let out = c .before .before .leaves .ensures in
+    let after = c .sheet .ensures in
+    opened (a .n) (a .k) (a .count) _ (a .out) e _ (out .0) (out .1) (omega arith) _ (after .0) (after .1) (after .2 (a .n))
+
+pub counted-spec : {M : Type 1} → statement M
+counted-spec =
+    tie.close
+    (tie.spec (λ c. search needs) (λ c κs. search needs) (λ c κs. search needs) returns (λ c κs. search needs) returns-2 (λ c κs. search needs)
+    (λ c κs. search needs) returns-3 (λ c κs. search needs) returns-4)
