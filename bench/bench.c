@@ -62,11 +62,12 @@ static void read_answer(struct board *board)
     memcpy(path, board->path, end);
     strcpy(path + end, ".answer");
     FILE *stream = fopen(path, "r");
-    for (size_t i = 0; i <= PLAIN_ANSWER; i++)
+    for (size_t i = 0; i <= PLAIN_ANSWER; i++) {
         if (stream == NULL || fscanf(stream, "%zu", &board->due[i]) != 1) {
             fprintf(stderr, "%s: no answer to compare with\n", path);
             exit(2);
         }
+    }
     fclose(stream);
     free(path);
 }
@@ -119,8 +120,9 @@ static void run(struct board *board, size_t repeats, double seconds)
     double end = milliseconds(CLOCK_MONOTONIC) + 1e3 * seconds;
     size_t done = 0;
 
-    for (size_t c = 0; c < COUNT; c++)
+    for (size_t c = 0; c < COUNT; c++) {
         measure(board, &CHECKER[c]); /* a first run, not counted */
+    }
     while (done < MOST_TIMES && (done < repeats || milliseconds(CLOCK_MONOTONIC) < end)) {
         for (size_t c = 0; c < COUNT; c++) {
             size_t turn = (c + done) % COUNT;
@@ -139,9 +141,11 @@ static double faster_plain(const double *times)
 {
     double best = times[0];
 
-    for (size_t c = 1; c < LIBRARY; c++)
-        if (times[c] < best)
+    for (size_t c = 1; c < LIBRARY; c++) {
+        if (times[c] < best) {
             best = times[c];
+        }
+    }
     return best;
 }
 
@@ -155,10 +159,12 @@ static const char *name_of(const char *path)
 static void print_heading(void)
 {
     printf("%-16s %2s %5s %6s %9s", "board", "n", "K", "rounds", "bytes");
-    for (size_t c = 0; c < COUNT; c++)
+    for (size_t c = 0; c < COUNT; c++) {
         printf(" %8s ms", CHECKER[c].name);
-    for (size_t c = 0; c < LIBRARY; c++)
+    }
+    for (size_t c = 0; c < LIBRARY; c++) {
         printf(" library/%s", CHECKER[c].name);
+    }
     printf(" library/faster of medians\n");
 }
 
@@ -167,10 +173,12 @@ static void print_line(const struct board *board)
 {
     printf("%-16s %2zu %5zu %6zu %9zu", name_of(board->path), board->n, board->k, board->due[1],
            board->length);
-    for (size_t c = 0; c < COUNT; c++)
+    for (size_t c = 0; c < COUNT; c++) {
         printf(" %11.3f", board->least[c]);
-    for (size_t c = 0; c < LIBRARY; c++)
+    }
+    for (size_t c = 0; c < LIBRARY; c++) {
         printf(" %*.3f", 8 + (int)strlen(CHECKER[c].name), board->least[LIBRARY] / board->least[c]);
+    }
     printf(" %14.3f %10.3f\n", board->least[LIBRARY] / faster_plain(board->least),
            board->median[LIBRARY] / faster_plain(board->median));
     fflush(stdout);
@@ -180,15 +188,18 @@ static void print_line(const struct board *board)
 static void print_growth(const struct board *boards, size_t count)
 {
     printf("\ngrowth with K, n = %zu, %zu rounds\n%5s", boards[0].n, boards[0].due[1], "K");
-    for (size_t c = 0; c < COUNT; c++)
+    for (size_t c = 0; c < COUNT; c++) {
         printf(" %8s ms a ballot", CHECKER[c].name);
+    }
     printf("\n");
     for (size_t i = 0; i < count; i++) {
-        if (boards[i].n != boards[0].n || boards[i].due[1] != boards[0].due[1])
+        if (boards[i].n != boards[0].n || boards[i].due[1] != boards[0].due[1]) {
             continue;
+        }
         printf("%5zu", boards[i].k);
-        for (size_t c = 0; c < COUNT; c++)
+        for (size_t c = 0; c < COUNT; c++) {
             printf(" %20.4f", boards[i].least[c] / (double)boards[i].k);
+        }
         printf("\n");
     }
 }
@@ -221,16 +232,18 @@ int main(int count, char **arguments)
     int first = 1;
 
     while (first + 1 < count && arguments[first][0] == '-') {
-        if (strcmp(arguments[first], "-r") == 0)
+        if (strcmp(arguments[first], "-r") == 0) {
             repeats = strtoul(arguments[first + 1], NULL, 10);
-        else if (strcmp(arguments[first], "-s") == 0)
+        } else if (strcmp(arguments[first], "-s") == 0) {
             seconds = strtod(arguments[first + 1], NULL);
-        else
+        } else {
             return usage();
+        }
         first += 2;
     }
-    if (first >= count || repeats < 1)
+    if (first >= count || repeats < 1) {
         return usage();
+    }
     size_t boards = (size_t)(count - first);
     struct board *board = room_for(boards, sizeof *board);
     print_heading();

@@ -41,11 +41,14 @@ static void rank(uint8_t *ranking, size_t n, size_t k)
     size_t at = 0;
 
     ranking[at++] = first;
-    if (second != first)
+    if (second != first) {
         ranking[at++] = second;
-    for (uint8_t process = 1; process <= n; process++)
-        if (process != first && process != second)
+    }
+    for (uint8_t process = 1; process <= n; process++) {
+        if (process != first && process != second) {
             ranking[at++] = process;
+        }
+    }
 }
 
 static void expected(size_t n, size_t *answer)
@@ -53,8 +56,9 @@ static void expected(size_t n, size_t *answer)
     memset(answer, 0, PLAIN_ANSWER * sizeof *answer);
     answer[0] = n - 1;
     answer[1] = 1;
-    for (size_t process = n; process > 2; process--)
+    for (size_t process = n; process > 2; process--) {
         answer[2 + n - process] = process;
+    }
 }
 
 /* A board of n - 1 rounds: its draws and its length. */
@@ -62,8 +66,9 @@ static size_t draws_needed(size_t n, size_t k)
 {
     size_t draws = 4 * n * n + 2 * n;
 
-    for (size_t rows = n - 1; rows >= 2; rows--)
+    for (size_t rows = n - 1; rows >= 2; rows--) {
         draws += rows * n + (rows + 1) * (2 + rows * n) + rows;
+    }
     return k * draws;
 }
 
@@ -72,8 +77,9 @@ static size_t board_length(size_t n, size_t k)
     size_t sheet = 4 + 6 * n;
     size_t length = 54 + k * (4 + 40 * n * n + 32 * n) + sheet;
 
-    for (size_t rows = n - 1; rows >= 2; rows--)
+    for (size_t rows = n - 1; rows >= 2; rows--) {
         length += k * (4 + 8 * rows * n + (rows + 1) * (28 + 12 * rows * n)) + sheet;
+    }
     return length;
 }
 
@@ -98,8 +104,9 @@ static void write_board(const struct size *size, uint8_t *out, size_t length, si
     uint8_t *rankings = room_for(k, n);
     uint32_t *draws = room_for(needed, sizeof *draws);
 
-    for (size_t i = 0; i < k; i++)
+    for (size_t i = 0; i < k; i++) {
         rank(rankings + i * n, n, i);
+    }
     fill_draws(draws, needed);
     expected(n, due);
     size_t refusal = gooseoften_write(n, k, P, Q, G0, COUNTER, (const uint8_t *)LABEL, 32, rankings,
@@ -140,8 +147,9 @@ static void make(const char *folder, const struct size *size)
     }
     stream = create(folder, size->name, "answer");
     fputs("0", stream);
-    for (size_t i = 0; i < PLAIN_ANSWER; i++)
+    for (size_t i = 0; i < PLAIN_ANSWER; i++) {
         fprintf(stream, " %zu", answer[i]);
+    }
     fputs("\n", stream);
     fclose(stream);
     printf("%s: %zu bytes\n", size->name, length);
@@ -154,7 +162,8 @@ int main(int count, char **arguments)
         fputs("usage: make_boards FOLDER\n", stderr);
         return 2;
     }
-    for (size_t i = 0; i < sizeof SIZES / sizeof *SIZES; i++)
+    for (size_t i = 0; i < sizeof SIZES / sizeof *SIZES; i++) {
         make(arguments[1], &SIZES[i]);
+    }
     return 0;
 }

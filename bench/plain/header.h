@@ -50,22 +50,27 @@ static size_t header_fault(struct board *board)
     const uint8_t *bytes = board->bytes;
     struct group *g = &board->group;
 
-    if (board->length < HEADER_LENGTH)
+    if (board->length < HEADER_LENGTH) {
         return PLAIN_LENGTH;
-    if (!has_mark(bytes, "HD"))
+    }
+    if (!has_mark(bytes, "HD")) {
         return PLAIN_MARK;
+    }
     board->n = bytes[2];
     board->k = half(bytes + 3);
     g->p = word(bytes + 5);
     g->q = word(bytes + 9);
     g->g0 = word(bytes + 13);
     g->g1 = word(bytes + 18);
-    if (board->n < 2 || board->n > MOST_PROCESSES || board->k < 1 || board->k > MOST_BALLOTS)
+    if (board->n < 2 || board->n > MOST_PROCESSES || board->k < 1 || board->k > MOST_BALLOTS) {
         return PLAIN_SIZES;
-    if (!orders_hold(board->n, board->k, g->p, g->q))
+    }
+    if (!orders_hold(board->n, board->k, g->p, g->q)) {
         return PLAIN_ORDERS;
-    if (!generators_hold(bytes, g))
+    }
+    if (!generators_hold(bytes, g)) {
         return PLAIN_GENERATORS;
+    }
     g->inverse = power(g->p, g->g1, g->q - 1);
     return PLAIN_ACCEPTED;
 }

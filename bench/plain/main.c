@@ -40,8 +40,9 @@ static void print_verdict(const uint8_t *board, size_t length, char between)
         return;
     }
     printf("accepted%crounds %zu%c", between, answer[0], between);
-    for (size_t i = 0; i + 1 < answer[0]; i++)
+    for (size_t i = 0; i + 1 < answer[0]; i++) {
         printf("out %zu%c", answer[2 + i], between);
+    }
     printf("winner %zu\n", answer[1]);
 }
 
@@ -88,10 +89,11 @@ int main(int count, char **arguments)
         return 0;
     }
     uint8_t *input = read_stream(stdin, "standard input", &length);
-    if (count > 1)
+    if (count > 1) {
         print_cases(input, length);
-    else
+    } else {
         print_verdict(input, length, '\n');
+    }
     free(input);
     return 0;
 }

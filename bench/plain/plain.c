@@ -15,12 +15,15 @@
 static size_t frame_fault(const struct board *board, size_t at, size_t size, const char *mark,
                           size_t number)
 {
-    if (board->length - at < size)
+    if (board->length - at < size) {
         return PLAIN_LENGTH;
-    if (!has_mark(board->bytes + at, mark))
+    }
+    if (!has_mark(board->bytes + at, mark)) {
         return PLAIN_MARK;
-    if (half(board->bytes + at + 2) != number)
+    }
+    if (half(board->bytes + at + 2) != number) {
         return PLAIN_NUMBER;
+    }
     return PLAIN_ACCEPTED;
 }
 
@@ -35,8 +38,9 @@ static bool entries_hold(const struct board *board, const uint8_t *pairs, const 
 
     for (size_t t = 0; t < n * n; t++) {
         struct claim claim = {.kind = ENTRY, .row = t / n, .column = t % n, .pairs = pairs};
-        if (!proof_holds(board, proofs + 32 * t, 2, 1, &claim))
+        if (!proof_holds(board, proofs + 32 * t, 2, 1, &claim)) {
             return false;
+        }
     }
     return true;
 }
@@ -47,13 +51,15 @@ static bool lines_hold(const struct board *board, const uint8_t *pairs, const ui
 
     for (size_t i = 0; i < n; i++) {
         struct claim claim = {.kind = ROW, .row = i, .pairs = pairs};
-        if (!proof_holds(board, proofs + 16 * i, 1, 1, &claim))
+        if (!proof_holds(board, proofs + 16 * i, 1, 1, &claim)) {
             return false;
+        }
     }
     for (size_t j = 0; j < n; j++) {
         struct claim claim = {.kind = COLUMN, .column = j, .pairs = pairs};
-        if (!proof_holds(board, proofs + 16 * (n + j), 1, 1, &claim))
+        if (!proof_holds(board, proofs + 16 * (n + j), 1, 1, &claim)) {
             return false;
+        }
     }
     return true;
 }
@@ -64,17 +70,21 @@ static size_t ballot_fault(const struct board *board, size_t at, size_t ballot)
     size_t n = board->n;
     size_t fault = frame_fault(board, at, ballot_size(n), "BA", ballot + 1);
 
-    if (fault != PLAIN_ACCEPTED)
+    if (fault != PLAIN_ACCEPTED) {
         return fault;
+    }
     const uint8_t *pairs = board->bytes + at + 4;
     const uint8_t *entries = pairs_walk(g, pairs, n * n);
-    if (entries == NULL)
+    if (entries == NULL) {
         return PLAIN_FIELD;
+    }
     const uint8_t *lines = branches_walk(g, entries, 2 * n * n, 1);
-    if (lines == NULL || branches_walk(g, lines, 2 * n, 1) == NULL)
+    if (lines == NULL || branches_walk(g, lines, 2 * n, 1) == NULL) {
         return PLAIN_FIELD;
-    if (!entries_hold(board, pairs, entries) || !lines_hold(board, pairs, lines))
+    }
+    if (!entries_hold(board, pairs, entries) || !lines_hold(board, pairs, lines)) {
         return PLAIN_PROOF;
+    }
     return PLAIN_ACCEPTED;
 }
 
@@ -96,8 +106,9 @@ static bool shift_holds(const struct board *board, const uint8_t *pairs, const u
                           .before = before,
                           .inverses = inverses};
 
-    for (size_t u = 0; u < 2 * (rows + 1) * n; u++)
+    for (size_t u = 0; u < 2 * (rows + 1) * n; u++) {
         inverses[u] = power(g->p, word(before + 4 * u), g->q - 1);
+    }
     return proof_holds(board, proof, rows + 1, 2 + rows * n, &claim);
 }
 
@@ -109,14 +120,17 @@ static size_t shift_fault(const struct board *board, size_t at, size_t before, s
     size_t n = board->n;
     size_t fault = frame_fault(board, at, shift_size(n, rows), "SH", ballot + 1);
 
-    if (fault != PLAIN_ACCEPTED)
+    if (fault != PLAIN_ACCEPTED) {
         return fault;
+    }
     const uint8_t *pairs = board->bytes + at + 4;
     const uint8_t *proof = pairs_walk(g, pairs, rows * n);
-    if (proof == NULL || branches_walk(g, proof, rows + 1, 2 + rows * n) == NULL)
+    if (proof == NULL || branches_walk(g, proof, rows + 1, 2 + rows * n) == NULL) {
         return PLAIN_FIELD;
-    if (!shift_holds(board, pairs, proof, board->bytes + before + 4, rows, out - 1))
+    }
+    if (!shift_holds(board, pairs, proof, board->bytes + before + 4, rows, out - 1)) {
         return PLAIN_PROOF;
+    }
     return PLAIN_ACCEPTED;
 }
 
@@ -130,9 +144,11 @@ struct standing {
 
 static bool is_out(const struct standing *standing, size_t process)
 {
-    for (size_t i = 0; i < standing->outs; i++)
-        if (standing->order[i] == process)
+    for (size_t i = 0; i < standing->outs; i++) {
+        if (standing->order[i] == process) {
             return true;
+        }
+    }
     return false;
 }
 
@@ -141,9 +157,11 @@ static size_t lowest(const struct standing *standing, const uint32_t *counts, si
 {
     size_t best = 0;
 
-    for (size_t i = 1; i <= n; i++)
-        if (!is_out(standing, i) && (best == 0 || counts[i - 1] <= counts[best - 1]))
+    for (size_t i = 1; i <= n; i++) {
+        if (!is_out(standing, i) && (best == 0 || counts[i - 1] <= counts[best - 1])) {
             best = i;
+        }
+    }
     return best;
 }
 
@@ -152,20 +170,25 @@ static size_t highest(const struct standing *standing, const uint32_t *counts, s
 {
     size_t best = 0;
 
-    for (size_t i = 1; i <= n; i++)
-        if (!is_out(standing, i) && (best == 0 || counts[i - 1] > counts[best - 1]))
+    for (size_t i = 1; i <= n; i++) {
+        if (!is_out(standing, i) && (best == 0 || counts[i - 1] > counts[best - 1])) {
             best = i;
+        }
+    }
     return best;
 }
 
 /* The round is the last: it is round n - 1, or a process still in has more than half. */
 static bool closes(const struct standing *standing, const uint32_t *counts, size_t n, size_t k)
 {
-    if (standing->outs + 1 == n - 1)
+    if (standing->outs + 1 == n - 1) {
         return true;
-    for (size_t i = 1; i <= n; i++)
-        if (!is_out(standing, i) && 2 * counts[i - 1] > k)
+    }
+    for (size_t i = 1; i <= n; i++) {
+        if (!is_out(standing, i) && 2 * counts[i - 1] > k) {
             return true;
+        }
+    }
     return false;
 }
 
@@ -190,10 +213,12 @@ static size_t sheet_walk(const struct board *board, const uint8_t *sheet, uint32
 {
     for (size_t i = 0; i < board->n; i++) {
         counts[i] = half(sheet + 4 + 6 * i);
-        if (counts[i] > board->k)
+        if (counts[i] > board->k) {
             return PLAIN_COUNT;
-        if (word(sheet + 6 + 6 * i) >= board->group.q)
+        }
+        if (word(sheet + 6 + 6 * i) >= board->group.q) {
             return PLAIN_FIELD;
+        }
     }
     return PLAIN_ACCEPTED;
 }
@@ -207,8 +232,9 @@ static bool tally_holds(const struct board *board, const struct round *round, co
     uint32_t s = word(sheet + 6 + 6 * i);
     uint32_t b = product(g->p, first, round->size, board->k, board->k);
 
-    if (b != times(g->p, power(g->p, g->g0, s), power(g->p, g->g1, count)))
+    if (b != times(g->p, power(g->p, g->g0, s), power(g->p, g->g1, count))) {
         return false;
+    }
     uint32_t y = product(g->p, first + 4, round->size, board->k, board->k);
     return y == power(g->p, g->g1, s);
 }
@@ -220,18 +246,24 @@ static size_t sheet_fault(const struct board *board, const struct round *round, 
     size_t n = board->n;
     const uint8_t *sheet = board->bytes + at;
 
-    if (board->length - at < sheet_size(n))
+    if (board->length - at < sheet_size(n)) {
         return PLAIN_LENGTH;
-    if (!has_mark(sheet, "RT"))
+    }
+    if (!has_mark(sheet, "RT")) {
         return PLAIN_MARK;
-    if (sheet[2] != round->number + 1)
+    }
+    if (sheet[2] != round->number + 1) {
         return PLAIN_NUMBER;
+    }
     size_t fault = sheet_walk(board, sheet, counts);
-    if (fault != PLAIN_ACCEPTED)
+    if (fault != PLAIN_ACCEPTED) {
         return fault;
-    for (size_t i = 0; i < n; i++)
-        if (!tally_holds(board, round, sheet, counts[i], i))
+    }
+    for (size_t i = 0; i < n; i++) {
+        if (!tally_holds(board, round, sheet, counts[i], i)) {
             return PLAIN_TALLY;
+        }
+    }
     size_t due = closes(standing, counts, n, board->k) ? 0 : lowest(standing, counts, n);
     return sheet[3] == due ? PLAIN_ACCEPTED : PLAIN_OUT;
 }
@@ -306,9 +338,10 @@ static size_t rounds_fault(const struct board *board, size_t *answer)
             answer[0] = first + k;
             return fault;
         }
-        if (closes(&standing, counts, n, k))
+        if (closes(&standing, counts, n, k)) {
             return ending(board, sheet + sheet_size(n), first + k, &standing,
                           highest(&standing, counts, n), answer);
+        }
         size_t out = lowest(&standing, counts, n);
         standing.order[standing.outs++] = out;
         round = next_round(board, &round, sheet, out);
@@ -319,10 +352,12 @@ size_t plain_check(const uint8_t *board, size_t length, size_t *answer)
 {
     struct board opened = {.bytes = board, .length = length};
 
-    for (size_t i = 0; i < PLAIN_ANSWER; i++)
+    for (size_t i = 0; i < PLAIN_ANSWER; i++) {
         answer[i] = 0;
+    }
     size_t fault = header_fault(&opened);
-    if (fault != PLAIN_ACCEPTED)
+    if (fault != PLAIN_ACCEPTED) {
         return fault;
+    }
     return rounds_fault(&opened, answer);
 }

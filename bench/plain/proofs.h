@@ -8,21 +8,25 @@
 
 static const uint8_t *pairs_walk(const struct group *g, const uint8_t *at, size_t count)
 {
-    for (size_t i = 0; i < count; i++, at += 8)
-        if (!is_element(g, word(at)) || !is_element(g, word(at + 4)))
+    for (size_t i = 0; i < count; i++, at += 8) {
+        if (!is_element(g, word(at)) || !is_element(g, word(at + 4))) {
             return NULL;
+        }
+    }
     return at;
 }
 
 static const uint8_t *branch_walk(const struct group *g, const uint8_t *at, size_t statements)
 {
-    if (word(at) >= g->q)
+    if (word(at) >= g->q) {
         return NULL;
+    }
     at += 4;
     for (size_t i = 0; i < statements; i++) {
         at = pairs_walk(g, at, 1);
-        if (at == NULL || word(at) >= g->q)
+        if (at == NULL || word(at) >= g->q) {
             return NULL;
+        }
         at += 4;
     }
     return at;
@@ -32,8 +36,9 @@ static const uint8_t *branch_walk(const struct group *g, const uint8_t *at, size
 static const uint8_t *branches_walk(const struct group *g, const uint8_t *at, size_t branches,
                                     size_t statements)
 {
-    for (size_t l = 0; l < branches && at != NULL; l++)
+    for (size_t l = 0; l < branches && at != NULL; l++) {
         at = branch_walk(g, at, statements);
+    }
     return at;
 }
 
@@ -59,9 +64,11 @@ static uint32_t product(uint32_t p, const uint8_t *at, size_t stride, size_t cou
 {
     uint32_t r = 1 % p;
 
-    for (size_t j = 0; j < count; j++)
-        if (j != out)
+    for (size_t j = 0; j < count; j++) {
+        if (j != out) {
             r = times(p, r, word(at + stride * j));
+        }
+    }
     return r;
 }
 
@@ -70,8 +77,9 @@ static struct statement entry_statement(const struct group *g, const uint8_t *pa
 {
     struct statement s = {word(pair), word(pair + 4)};
 
-    if (branch > 0)
+    if (branch > 0) {
         s.left = times(g->p, s.left, g->inverse);
+    }
     return s;
 }
 
@@ -93,8 +101,9 @@ static struct statement shift_statement(const struct board *board, const struct 
     size_t n = board->n;
     const uint8_t *row = claim->before + 8 * branch * n;
 
-    if (i == 0)
+    if (i == 0) {
         return entry_statement(g, row + 8 * claim->column, 1);
+    }
     if (i == 1) {
         uint32_t b = product(g->p, row, 8, n, claim->column);
         uint32_t y = product(g->p, row + 4, 8, n, claim->column);
@@ -154,8 +163,9 @@ static bool proof_holds(const struct board *board, const uint8_t *at, size_t bra
         sum = (uint32_t)(((uint64_t)sum + challenge) % g->q);
         at += 4;
         for (size_t i = 0; i < statements; i++) {
-            if (!statement_holds(g, statement_of(board, claim, l, i), at, challenge))
+            if (!statement_holds(g, statement_of(board, claim, l, i), at, challenge)) {
                 return false;
+            }
             hash_update(&h, at, 8);
             at += 12;
         }

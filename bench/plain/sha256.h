@@ -32,8 +32,9 @@ static uint32_t rotate(uint32_t x, unsigned bits)
 
 static void expand(uint32_t w[64], const uint8_t *block)
 {
-    for (size_t t = 0; t < 16; t++)
+    for (size_t t = 0; t < 16; t++) {
         w[t] = word(block + 4 * t);
+    }
     for (size_t t = 16; t < 64; t++) {
         uint32_t lower0 = rotate(w[t - 15], 7) ^ rotate(w[t - 15], 18) ^ w[t - 15] >> 3;
         uint32_t lower1 = rotate(w[t - 2], 17) ^ rotate(w[t - 2], 19) ^ w[t - 2] >> 10;
@@ -91,8 +92,9 @@ static void hash_update(struct hasher *h, const uint8_t *piece, size_t length)
             /* a whole block is hashed where it stands */
             compress(h->state, piece);
         } else {
-            if (part > length)
+            if (part > length) {
                 part = length;
+            }
             memcpy(h->block + h->filled, piece, part);
             h->filled += part;
             if (h->filled == 64) {
@@ -114,8 +116,9 @@ static void hash_finish(struct hasher *h, uint8_t digest[32])
     put_word(tail + zeros + 1, (uint32_t)(bits >> 32));
     put_word(tail + zeros + 5, (uint32_t)bits);
     hash_update(h, tail, zeros + 9);
-    for (size_t i = 0; i < 8; i++)
+    for (size_t i = 0; i < 8; i++) {
         put_word(digest + 4 * i, h->state[i]);
+    }
 }
 
 /* The first 8 bytes of a digest as a number, modulo m. */
