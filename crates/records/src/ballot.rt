@@ -49,7 +49,7 @@ fn entries_good(board: &[u8], h: Head, at: usize) -> bool
 {
     let head = h;
     let n = h.n;
-    let none = [0u32; 1];
+    let no_inverses = [0u32; 0];
     let first = at + 4 + 8 * (n * n);
     let count = n * n;
     for t in 0..count {
@@ -58,7 +58,7 @@ fn entries_good(board: &[u8], h: Head, at: usize) -> bool
             i: t / n,
             j: t % n,
         };
-        if !crate::proof_good(board, &none, first + 32 * t, 2, 1, head, claim) {
+        if !crate::proof_good(board, &no_inverses, first + 32 * t, 2, 1, head, claim) {
             return false;
         }
     }
@@ -72,12 +72,12 @@ fn lines_good(board: &[u8], h: Head, at: usize) -> bool
 {
     let head = h;
     let n = h.n;
-    let none = [0u32; 1];
+    let no_inverses = [0u32; 0];
     let first = at + 4 + 40 * (n * n);
     let count = n + n;
     for t in 0..count {
         let claim = Claim::Line { at, t };
-        if !crate::proof_good(board, &none, first + 16 * t, 1, 1, head, claim) {
+        if !crate::proof_good(board, &no_inverses, first + 16 * t, 1, 1, head, claim) {
             return false;
         }
     }

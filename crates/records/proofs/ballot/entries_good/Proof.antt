@@ -14,10 +14,10 @@ use Rattle.records.proofs.ballot.entries_good.Statement.{statement}
 use Rattle.records.proofs.ballot.entries_good.Tie as tie
 
 abbrev Inv-loop : tie.InvT-loop
-Inv-loop board at head n none first count t₀ t = (t ≤ n * n) × (allBelow t (entryGood board head at) ≡ true)
+Inv-loop board at head n no-inverses first count t₀ t = (t ≤ n * n) × (allBelow t (entryGood board head at) ≡ true)
 
 abbrev μ-loop : tie.MeasureT-loop
-μ-loop board at head n none first count t₀ t = n * n - t
+μ-loop board at head n no-inverses first count t₀ t = n * n - t
 
 proof-good-requires : tie.Need-proof-good-requires Inv-loop μ-loop
 unfolding Within
