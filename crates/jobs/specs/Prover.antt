@@ -1,4 +1,4 @@
--- A proof made by one who knows the witness of each statement of one branch, and draws for the others.
+-- A proof made by one who knows the witness of each statement of one branch, and draws for the others (Cramer, Damgård and Schoenmakers 1994).
 use Prim.Native.Nat.{ℕ, _+_, _*_, _-_, _%_}
 use mathlib.Core.Bool.{cond}
 use mathlib.Core.List.{List, _++_}

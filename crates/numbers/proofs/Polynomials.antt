@@ -1,4 +1,4 @@
--- A monic polynomial has at most as many roots modulo a prime as its degree.
+-- Root counting (Lagrange): a monic polynomial has at most as many roots modulo a prime as its degree.
 use Prim.Native.Nat.{ℕ, zero, suc, _+_, _*_, _-_, _^_, _≤_, _<_, zero-le, suc-le-suc}
 use mathlib.Core.Path.{_≡_, refl, sym, ap}
 use mathlib.Core.Logic.{_⊎_, inl, inr}

@@ -1,4 +1,4 @@
--- Special soundness: where no branch is true, the commitments allow one challenge.
+-- Special soundness of one-of-many proofs (Cramer, Damgård and Schoenmakers 1994): where no branch is true, the commitments allow one challenge.
 use Prim.Native.Nat.{ℕ, _*_, _-_, _%_, _^_, _<_}
 use mathlib.Core.Path.{_≡_, sym, _∙_}
 use native.Mathlib.Nat.{mul-mul-mul-comm, one-mul}

@@ -1,4 +1,5 @@
--- "Proofs": branches of statements, each with its commitments and response, under challenges that add up.
+-- "Proofs": branches of statements, each with its commitments and response, under challenges that add up. A statement is one of equal logarithms
+-- (Chaum and Pedersen 1992); that one branch of many is true is shown as by Cramer, Damgård and Schoenmakers (1994).
 use Prim.Native.Nat.{ℕ, _+_, _*_, _%_}
 use mathlib.Core.List.{List, _++_}
 use mathlib.Core.Bool.{Bool, _&&_}

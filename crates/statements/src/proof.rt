@@ -1,4 +1,4 @@
-// The check of a proof.
+// The check of a proof: statements of equal logarithms (Chaum and Pedersen 1992) in branches of which one is true (Cramer, Damgård and Schoenmakers 1994).
 use crate::Setup;
 use crate::claims;
 use crate::claims::Claim;
