@@ -20,14 +20,14 @@ def by_kind(base, record):
     """The fields of a record that refusal 7 may name, by kind, the kinds of proof apart."""
     kinds = {}
     for f in base.fields:
-        if f[0] == record and f[2] in FIELDS:
-            kinds.setdefault(f[2] + ('.' + f[5][0] if f[2] in ('e', 't1', 't2', 'r') else ''),
+        if f.record == record and f.kind in FIELDS:
+            kinds.setdefault(f.kind + ('.' + f.detail[0] if f.kind in ('e', 't1', 't2', 'r') else ''),
                              []).append(f)
     return kinds
 
 
 def records_of(base, mark):
-    return sorted({f[0] for f in base.fields if f[1] == mark})
+    return sorted({f.record for f in base.fields if f.mark == mark})
 
 
 def places_in(base, mark):
@@ -57,7 +57,7 @@ def bad_fields(cases, base, marks):
     """7: a field of each kind out of its range."""
     turn = 0
     for mark in marks:
-        walk = [f for f in base.fields if f[1] == mark and f[2] in FIELDS]
+        walk = [f for f in base.fields if f.mark == mark and f.kind in FIELDS]
         for where, record, kind, f in places_in(base, mark):
             element = kind[0] in 'bYt'
             value = (no_element if element else too_high)(base, base.value(f), turn)
@@ -71,7 +71,7 @@ def bad_fields(cases, base, marks):
 def other_fields(cases, base):
     """8: a field changed to another that may stand there."""
     for mark in ('BA', 'SH'):
-        proofs = [f for f in base.fields if f[1] == mark and f[2] in ('e', 't1', 't2', 'r')]
+        proofs = [f for f in base.fields if f.mark == mark and f.kind in ('e', 't1', 't2', 'r')]
         for where, record, kind, f in places_in(base, mark):
             if where == 'middle' or kind.endswith('row' if where == 'first' else 'entry'):
                 continue
@@ -89,9 +89,9 @@ def sheets(cases, base, chosen):
     records = records_of(base, 'RT')
     for at in chosen:
         record = records[at]
-        fields = [f for f in base.fields if f[0] == record]
-        counts = [f for f in fields if f[2] == 'count']
-        sums = [f for f in fields if f[2] == 's']
+        fields = [f for f in base.fields if f.record == record]
+        counts = [f for f in fields if f.kind == 'count']
+        sums = [f for f in fields if f.kind == 's']
         for i in (0, n // 2, n - 1):
             spot = place(at * n + i, len(records) * n)
             old = base.value(counts[i])
@@ -105,7 +105,7 @@ def sheets(cases, base, chosen):
             cases.add(name + 's%d.another' % (i + 1),
                       base.put(sums[i], (base.value(sums[i]) + 1) % base.q),
                       ('refused', 10, record), '10 ' + spot)
-        out = next(f for f in fields if f[2] == 'out')
+        out = next(f for f in fields if f.kind == 'out')
         for value in (0, 1, n, n + 1 if at else 255):
             if value != base.value(out):
                 cases.add(name + 'out=%d' % value, base.put(out, value), ('refused', 11, record),
@@ -114,11 +114,11 @@ def sheets(cases, base, chosen):
 
 def numbers(cases, base, mark):
     """6 in every record of a mark."""
-    fields = [f for f in base.fields if f[1] == mark and f[2] in ('number', 'round')]
+    fields = [f for f in base.fields if f.mark == mark and f.kind in ('number', 'round')]
     for i, f in enumerate(fields):
         value = (base.value(f) + 1, 0, 255, base.value(f) - 1)[i % 4]
-        cases.add('%s.%s%d.%s=%d' % (base.name, mark, f[0], f[2], value), base.put(f, value),
-                  ('refused', 6, f[0]), '6.%s %s' % (mark, place(i, len(fields))))
+        cases.add('%s.%s%d.%s=%d' % (base.name, mark, f.record, f.kind, value), base.put(f, value),
+                  ('refused', 6, f.record), '6.%s %s' % (mark, place(i, len(fields))))
 
 
 def frames(cases, base):
@@ -129,7 +129,7 @@ def frames(cases, base):
         for length in (base.starts[record], base.starts[record + 1] - 1)[record % 2:]:
             cases.add('%s.cut.%d-bytes' % (base.name, length), base.board[:length],
                       ('refused', 1, record), '1 ' + place(record, count))
-        mark = next(f for f in base.fields if f[0] == record and f[2] == 'mark')
+        mark = next(f for f in base.fields if f.record == record and f.kind == 'mark')
         other = {'HD': 'BA', 'BA': 'SH', 'SH': 'BA', 'RT': 'SH'}[mark[1]]
         value = (mark[1][0] + '\0', 'X' + mark[1][1], other)[record % 3].encode()
         cases.add('%s.record%d.mark=%s' % (base.name, record, value.hex()),
@@ -145,7 +145,7 @@ def tails(cases, base, rest):
 
 def header_places(cases, base):
     """3, 4 and 5, field by field."""
-    F = {f[2]: f for f in base.fields if f[0] == 0}
+    F = {f.kind: f for f in base.fields if f.record == 0}
     p, q, g0 = base.p, base.q, base.g0
     label, g1 = base.value(F['label']), base.value(F['g1'])
     for kind, values, cover in (
@@ -235,7 +235,7 @@ def large(cases, rng):
     cases.add('eight.rt%d.out=3' % last, base.board[:sheet + 3] + b'\3' + base.board[sheet + 4:],
               ('refused', 11, last), 'n8', '11 last')
     for record, kind, spot in ((last - 1, 'r', 'last'), (4, 't2', 'middle')):
-        f = [g for g in base.fields if g[0] == record and g[2] == kind][-1]
+        f = [g for g in base.fields if g.record == record and g.kind == kind][-1]
         value = (base.value(f) + 1) % base.q if kind == 'r' else base.value(f) * 4 % base.p
         cases.add('eight.sh%d.last.%s.another' % (record, kind), base.put(f, value),
                   ('refused', 8, record), 'n8', '8.SH ' + spot)

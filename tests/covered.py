@@ -1,7 +1,10 @@
 """The lists of stored cases: what they have to cover, and how one is filed."""
+import collections
 import re
 
 BIG = 2 ** 32 - 1
+Case = collections.namedtuple('Case', 'name case expect covers')     # a case filed
+Made = collections.namedtuple('Made', 'name board expect note')      # a board that faults made
 PLACES = ('first', 'middle', 'last')
 
 BOARDS = {
@@ -97,11 +100,11 @@ class Cases:
             name += '.again%d' % same
         self.names.add(name)
         self.seen.add(case)
-        self.items.append((name, case, expect, covers))
+        self.items.append(Case(name, case, expect, covers))
 
     def rows(self):
         """(text, number or numbers by place) for each row of the table."""
-        filed = [c for _, _, _, covers in self.items for c in covers]
+        filed = [c for item in self.items for c in item.covers]
         for key, text in self.table.items():
             if key in self.placed:
                 numbers = [filed.count('%s %s' % (key, p)) if p in self.placed[key] else None
@@ -120,20 +123,21 @@ class Pool:
         make(self, *args)
 
     def add(self, name, board, expect=None, note='', sure=True):
-        self.items.append((name, board, expect if sure else None, note))
+        self.items.append(Made(name, board, expect if sure else None, note))
 
     def pick(self, cases, name, covers, note='', most=1, key=None, where=None, longest=BIG):
         """Files the boards of a name whose note matches and for which where(board, note) holds;
         with a key, at most `most` of each key(board, note)."""
         groups = {}
         for item in self.items:
-            if (item[0] == name and re.search(note, item[3]) and len(item[1]) <= longest
-                    and (where is None or where(item[1], item[3]))):
-                groups.setdefault(key(item[1], item[3]) if key else item[1], []).append(item)
+            if (item.name == name and re.search(note, item.note) and len(item.board) <= longest
+                    and (where is None or where(item.board, item.note))):
+                group = key(item.board, item.note) if key else item.board
+                groups.setdefault(group, []).append(item)
         assert groups, (name, note)
         for items in groups.values():
-            for _, board, expect, text in spread(items, most):
-                cases.add('%s.%s' % (name, text), board, expect, *covers)
+            for item in spread(items, most):
+                cases.add('%s.%s' % (name, item.note), item.board, item.expect, *covers)
 
 
 def spread(items, most):

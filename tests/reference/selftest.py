@@ -240,15 +240,15 @@ def random_jobs(count, seed):
 
 def checker_refusals(board, fields, q):
     def field(record, kind, last):
-        return [f for f in fields if f[0] == record and f[2] == kind][-1 if last else 0]
+        return [f for f in fields if f.record == record and f.kind == kind][-1 if last else 0]
 
     def put(record, kind, value, last=False):
         f = field(record, kind, last)
-        return ref.check(board[:f[3]] + be(value, f[4]) + board[f[3] + f[4]:])
+        return ref.check(board[:f.start] + be(value, f.width) + board[f.start + f.width:])
 
     def old(record, kind, last=False):
         f = field(record, kind, last)
-        return int.from_bytes(board[f[3]:f[3] + f[4]], 'big')
+        return int.from_bytes(board[f.start:f.start + f.width], 'big')
 
     hit = {
         1: (ref.check(board[:-1]), 8),
@@ -286,9 +286,9 @@ def every_refusal():
     # the layout table agrees with what the reader does: every 4-byte proof field set to 2^32-1
     # is refused with 7 at its record
     for f in fields:
-        if f[2] in ('b', 'Y', 't1', 't2', 'e', 'r', 's'):
-            bad = board[:f[3]] + b'\xff' * 4 + board[f[3] + 4:]
-            assert ref.check(bad) == ('refused', 7, f[0])
+        if f.kind in ('b', 'Y', 't1', 't2', 'e', 'r', 's'):
+            bad = board[:f.start] + b'\xff' * 4 + board[f.start + 4:]
+            assert ref.check(bad) == ('refused', 7, f.record)
 
 
 LOG0 = {pow(2, w, 23): w for w in range(11)}

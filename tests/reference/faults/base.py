@@ -23,7 +23,7 @@ class Base:
         self.board = answer[1]
         self.accepted = ('accepted', self.rounds, self.outs, self.winner)
         self.fields = layout(n, self.K, self.rounds)
-        self.starts = [f[3] for f in self.fields if f[2] == 'mark'] + [len(self.board)]
+        self.starts = [f.start for f in self.fields if f.kind == 'mark'] + [len(self.board)]
         self.tiny = self.q < 1000
 
     def value(self, field):

@@ -6,13 +6,13 @@ def change(base, pairs):
     """The board with a value put into each field."""
     board = bytearray(base.board)
     for f, value in pairs:
-        board[f[3]:f[3] + f[4]] = be(value, f[4])
+        board[f.start:f.start + f.width] = be(value, f.width)
     return bytes(board)
 
 
 def find(base, record, kind, detail=None):
-    return next(f for f in base.fields if f[0] == record and f[2] == kind
-                and (detail is None or f[5] == detail))
+    return next(f for f in base.fields if f.record == record and f.kind == kind
+                and (detail is None or f.detail == detail))
 
 
 def double_faults(out, base):
@@ -53,7 +53,7 @@ def ballot_doubles(out, base, r):
     (8)."""
     K, q, name = base.K, base.q, base.name
     mark, num, b = find(base, r, 'mark'), find(base, r, 'number'), find(base, r, 'b')
-    responses = [f for f in base.fields if f[0] == r and f[2] == 'r']
+    responses = [f for f in base.fields if f.record == r and f.kind == 'r']
     first_r, last_r = responses[0], responses[-1]
     c1 = find(base, K + 1, 'count', 1)
     bad = (base.value(first_r) + 1) % q

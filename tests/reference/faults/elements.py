@@ -12,7 +12,7 @@ LISTS2 = [[1, 2], [2, 1]]
 
 
 def number_at(board, f):
-    return int.from_bytes(board[f[3]:f[3] + 4], 'big')
+    return int.from_bytes(board[f.start:f.start + 4], 'big')
 
 
 def unseen_places(board, order):
@@ -20,16 +20,16 @@ def unseen_places(board, order):
     challenge that touches the pair is a multiple of the order."""
     for k in (1, 2):
         for j in (0, 1):
-            touching = [f for f in FIELDS if f[0] == k and f[2] == 'e'
-                        and f[5][:2] in (('entry', 2 + j), ('row', 1), ('col', j))]
+            touching = [f for f in FIELDS if f.record == k and f.kind == 'e'
+                        and f.detail[:2] in (('entry', 2 + j), ('row', 1), ('col', j))]
             if all(number_at(board, f) % order == 0 for f in touching):
                 yield k, j
 
 
 def times_outsider(board, kind, k, j, outsider, p):
     """The board with that b or Y times a number outside the group."""
-    f = next(f for f in FIELDS if f[0] == k and f[2] == kind and f[5] == (1, j))
-    return board[:f[3]] + be(number_at(board, f) * outsider % p, 4) + board[f[3] + 4:]
+    f = next(f for f in FIELDS if f.record == k and f.kind == kind and f.detail == (1, j))
+    return board[:f.start] + be(number_at(board, f) * outsider % p, 4) + board[f.start + 4:]
 
 
 def passes_without_membership(board, answer):

@@ -14,11 +14,11 @@ def field_faults(out, rng, base, every_record=False, light=False):
     K = base.K
     by_record = {}
     for f in base.fields:
-        by_record.setdefault(f[0], []).append(f)
+        by_record.setdefault(f.record, []).append(f)
     chosen = []
     groups = {}                                       # records by mark and round
     for r, fields in by_record.items():
-        groups.setdefault((fields[0][1], (r - 1) // (K + 1)), []).append(r)
+        groups.setdefault((fields[0].mark, (r - 1) // (K + 1)), []).append(r)
     for records in groups.values():
         chosen += records if every_record else sorted({records[0], records[-1]})
     for r in sorted(chosen):
@@ -26,9 +26,9 @@ def field_faults(out, rng, base, every_record=False, light=False):
             continue
         kinds = {}
         for f in by_record[r]:
-            name = f[2]
+            name = f.kind
             if name in ('e', 't1', 't2', 'r'):
-                name += '/' + f[5][0]
+                name += '/' + f.detail[0]
             kinds.setdefault(name, []).append(f)
         for name, fields in kinds.items():
             for f in fields[-1:] if light else spread(fields):
@@ -37,11 +37,11 @@ def field_faults(out, rng, base, every_record=False, light=False):
 
 def one_field(out, rng, base, r, f, light=False):
     """Field f of record r, with each value of its kind that differs and fits."""
-    kind, mark, detail = f[2], f[1], f[5]
+    kind, mark, detail = f.kind, f.mark, f.detail
     old = base.value(f)
     note = '%s record %d %s field %s %s' % (base.name, r, mark, kind, detail)
     for value, number, sure in VALUES[kind](rng, base, f, light):
-        if 0 <= value < 256 ** f[4] and value != old:
+        if 0 <= value < 256 ** f.width and value != old:
             out.add('%s_%s_%s' % (base.name, mark, kind), base.put(f, value),
                     ('refused', number, r), note + ' %d -> %d' % (old, value), sure)
 
@@ -51,7 +51,7 @@ def one_field(out, rng, base, r, f, light=False):
 # Each yields (value, number of the refusal due, sure); sure as in Out.add.
 
 def marks(rng, base, f, light):
-    mark = f[1].encode()
+    mark = f.mark.encode()
     others = (b'HD', b'BA', b'SH', b'RT', b'HF', b'ba', b'\0\0', mark[::-1], mark[:1] + b'\0',
               b'\0' + mark[1:])
     for other in others[2:5] if light else others:
@@ -74,7 +74,7 @@ def elements(rng, base, f, light):
         if pow(value, q, p) != 1:
             break
     yield value, 7, True
-    sure = f[2] in ('t1', 't2') or not base.tiny
+    sure = f.kind in ('t1', 't2') or not base.tiny
     yield old * base.g0 % p, 8, sure                  # another element
     if not light:
         yield 1, 8, sure
