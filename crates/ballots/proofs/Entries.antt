@@ -1,5 +1,5 @@
 -- The proofs of a ballot in the terms of its matrix. Assumes nothing.
-use Prim.Native.Nat.{ℕ, zero, suc, _+_, _*_, _-_, _/_, _%_, _≤_, _<_}
+use Prim.Native.Nat.{ℕ, zero, suc, _+_, _*_, _/_, _%_, _≤_, _<_}
 use mathlib.Core.Path.{_≡_, refl, ap, _∙_}
 use mathlib.Core.List.{List}
 use native.Mathlib.Nat.{div-add-mod', mod-mod, mod-lt, div-lt-iff-lt-mul}
@@ -13,11 +13,14 @@ use Rattle.rules.specs.Claims.{Matrix, matrixAt}
 use Rattle.statements.specs.declared.claims.Claim.{Claim}
 use Rattle.statements.specs.declared.claims.Claim.the-variants.{Entry}
 use Rattle.statements.specs.Claims.{claimOf, Within}
-use Rattle.whole.proofs.Complete.Matrices.{SameMatrix, entry-same}
+use Rattle.jobs.proofs.Matrices.{SameMatrix, entry-same}
 use Rattle.proving.specs.declared.Plan.{Plan}
 use Rattle.proving.specs.Plans.{Spread, Drawn, Planned, witnessAt, proofOf}
-use Rattle.proving.proofs.Same.{proof-same, length-proof}
-use Rattle.ballots.specs.Parts.{matrixOf, opened, lineProof, entryOf, lineOf}
+use Rattle.jobs.proofs.Same.{proof-same}
+use Rattle.jobs.proofs.Lengths.{length-proof}
+use Rattle.ballots.specs.Parts.{lineOf, entryIn}
+use Rattle.jobs.specs.Records.{opened, matrixOf, lineProver}
+use Rattle.jobs.specs.Prover.{proofBytes}
 
 pub spread-part : (q : ℕ) (draws : List ℕ) (from total at count : ℕ) → Spread q draws from total → at + count ≤ from + total → Spread q draws at count
 spread-part q draws from total at count s h =
@@ -61,23 +64,19 @@ one x zero h = refl
 one x (suc i) h = absurd (omega arith)
 
 pub line-is : (label : List ℕ) (g : Parameters) (claim : ℕ → ℕ → Statement) (said : Statement) (w : Exponent) (x : ℕ) (draws : List ℕ) (from : ℕ) → w .0 ≡ x % g .q →
-    proofOf label g claim (planOf 1 1 0 from) (alone w) draws ≡ lineProof label g said x draws from
+    proofOf label g claim (planOf 1 1 0 from) (alone w) draws ≡ proofBytes g (lineProver draws said x from) sha256 label
 line-is label g claim said w x draws from e =
     proof-same sha256 label g (λ d. getD draws d 0) 1 1 0 from claim (λ _ _. said) _ _ (λ l i h k n. absurd (n (omega arith)))
     (λ i h. ap (λ (a : ℕ). a % g .q) (one w i h ∙ e) ∙ mod-mod x (g .q))
 
 pub entry-is : (label : List ℕ) (g : Parameters) (n : ℕ) (list : ℕ → ℕ) (page draws : List ℕ) (from c v : ℕ) (x : Exponent) → 0 < n → c < n * n →
     SameMatrix n n (matrixAt page n 0) (matrixOf g n list draws from) → v ≡ opened list (c / n) (c % n) → x .0 ≡ getD draws (from + c) 0 →
-    proofOf label g (claimOf page g n (Entry 0 (c / n) (c % n))) (planOf 2 1 v (from + n * n + 3 * c)) (alone x) draws ≡ entryOf label g n list draws from (c / n) (c % n)
-unfolding entryOf claimOf
+    proofOf label g (claimOf page g n (Entry 0 (c / n) (c % n))) (planOf 2 1 v (from + n * n + 3 * c)) (alone x) draws ≡ entryIn label g n list draws from c
+unfolding claimOf
 entry-is label g n list page draws from c v x some low same ev ex =
     rw (div-add-mod' c n, ← ev, ← ex)
     (proof-same sha256 label g (λ d. getD draws d 0) 2 1 v (from + n * n + 3 * c) _ _ _ _
     (λ l i h k m. entry-same g n _ _ n (c / n) (c % n) l same (div-lt-iff-lt-mul some .1 low) (mod-lt c some)) (λ i h. ap (λ (a : ℕ). a % g .q) (one x i h)))
-
-pub length-entry : (label : List ℕ) (g : Parameters) (n : ℕ) (list : ℕ → ℕ) (draws : List ℕ) (from i j : ℕ) → length (entryOf label g n list draws from i j) ≡ 32
-unfolding entryOf
-length-entry label g n list draws from i j = length-proof sha256 label g _
 
 pub length-line : (label : List ℕ) (g : Parameters) (n : ℕ) (M : Matrix) (draws : List ℕ) (from t : ℕ) → length (lineOf label g n M draws from t) ≡ 16
 unfolding lineOf

@@ -11,15 +11,16 @@ use Rattle.numbers.specs.Below.{blocks}
 use Rattle.numbers.proofs.Blocks.{blocks-same, blocks-grid}
 use Rattle.group.specs.Arithmetic.{powMod}
 use Rattle.group.specs.Elements.{Parameters}
-use Rattle.rules.specs.Bytes.{bytes4, part}
+use Rattle.rules.specs.Bytes.{bytes4, part, Stands}
 use Rattle.rules.specs.Group.{paired}
 use Rattle.rules.specs.Claims.{Matrix, matrixAt}
-use Rattle.jobs.specs.Board.{pairBytes}
-use Rattle.whole.proofs.Complete.Places.{Stands, stands-whole, stands-left, stands-right, stands-moved, part-stands}
-use Rattle.whole.proofs.Complete.Matrices.{SameMatrix, pairs-length, pairs-stand}
+use Rattle.rules.proofs.Places.{stands-whole, stands-left, stands-right, stands-moved, part-stands}
+use Rattle.jobs.proofs.Matrices.{SameMatrix, pairs-stand}
 use Rattle.output.specs.Written.{written}
 use Rattle.output.proofs.Laws.{put-rest}
-use Rattle.ballots.specs.Parts.{drawn, opened, matrixOf, Paged}
+use Rattle.ballots.specs.Parts.{Paged}
+use Rattle.jobs.specs.Records.{secretAt, opened, matrixOf, pairBytes}
+use Rattle.jobs.proofs.Lengths.{length-pairs}
 
 -- a part that reaches the end comes back with b at its front: b stands there, and what stood before it still does
 module _ (a k : ℕ) (l r b : List ℕ) (inside : a + k ≡ length l) (e : r ≡ written b (midOf a k l)) where
@@ -78,9 +79,6 @@ pairIn n M c = bytes4 (M .b (c / n) (c % n)) ++ bytes4 (M .y (c / n) (c % n))
 pub pairs-through : (n rows : ℕ) (M : Matrix) → 0 < n → blocks (rows * n) (pairIn n M) ≡ pairBytes n M rows
 pairs-through n rows M h = grid rows n (λ i j. bytes4 (M .b i j) ++ bytes4 (M .y i j)) h
 
-pub length-pairs : (n : ℕ) (M : Matrix) (rows : ℕ) → length (pairBytes n M rows) ≡ 8 * (rows * n)
-length-pairs n M rows = omega (arith, pairs-length n M rows)
-
 module _ (g : Parameters) (n : ℕ) (list : ℕ → ℕ) (draws : List ℕ) (from : ℕ) where
   -- the pair made from the c-th draw
   pub made : (c x v : ℕ) → x ≡ getD draws (from + c) 0 → v ≡ opened list (c / n) (c % n) →
@@ -94,8 +92,8 @@ module _ (g : Parameters) (n : ℕ) (list : ℕ → ℕ) (draws : List ℕ) (fro
   unfolding matrixOf powMod
   paged-same page at rows some small s =
       pairs-stand page at n rows (matrixOf g n list draws from)
-      (λ i j. omega (arith, mod-lt (powMod (g .p) (g .g0) (drawn draws from n i j) * powMod (g .p) (g .g1) (opened list i j)) some))
-      (λ i j. omega (arith, mod-lt (g .g1 ^ drawn draws from n i j) some)) s
+      (λ i j. omega (arith, mod-lt (powMod (g .p) (g .g0) (secretAt n draws from i j) * powMod (g .p) (g .g1) (opened list i j)) some))
+      (λ i j. omega (arith, mod-lt (g .g1 ^ secretAt n draws from i j) some)) s
 
 pub row-few : (c n rows : ℕ) → 0 < n → rows ≤ 8 → c < rows * n → c / n < 8
 row-few c n rows h k l = lt-of-lt-of-le (div-lt-iff-lt-mul h .1 l) k

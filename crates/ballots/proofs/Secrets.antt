@@ -17,8 +17,9 @@ use Rattle.group.specs.declared.Exponent.{Exponent}
 use Rattle.rules.specs.Claims.{source}
 use Rattle.statements.specs.Lines.{lineStart, lineStride}
 use Rattle.statements.proofs.Lines.{by-row, by-column, row-or-column, row-below, row-cell, column-cell}
-use Rattle.whole.proofs.Complete.WrittenShift.{source-below}
-use Rattle.ballots.specs.Parts.{drawn, lineSum, sumBut, witnessOf, Witnessed}
+use Rattle.jobs.proofs.Matrices.{source-below}
+use Rattle.ballots.specs.Parts.{lineSum, sumBut, Witnessed}
+use Rattle.jobs.specs.Records.{secretAt, shiftWitness}
 
 module _ (draws : List ℕ) (at stride but i sum : ℕ) (e : sum ≡ sumBut draws at stride i but) where
   pub sum-more : (i ≡ but → ⊥) → sum + getD draws (at + stride * i) 0 ≡ sumBut draws at stride (i + 1) but
@@ -37,8 +38,8 @@ pub line-sum : (draws : List ℕ) (from n t : ℕ) →
     sumBut draws (from + lineStart n t) (lineStride n t) n n ≡ lineSum draws from n t
 unfolding sumBut
 line-sum draws from n t =
-    let row : ℕ → ℕ = λ i. sumBelow n (λ j. drawn draws from n i j) in
-    let column : ℕ → ℕ = λ j. sumBelow n (λ i. drawn draws from n i j) in
+    let row : ℕ → ℕ = λ i. sumBelow n (λ j. secretAt n draws from i j) in
+    let column : ℕ → ℕ = λ j. sumBelow n (λ i. secretAt n draws from i j) in
     row-or-column n t
     (λ h. rw (by-row n row column t h)
     (sum-same n _ _ (λ j l. let e : from + lineStart n t + lineStride n t * j ≡ from + (t * n + j) = omega (arith, row-cell n t j h) in rw (ne-eqb j n (λ e. omega arith), e))))
@@ -47,23 +48,23 @@ line-sum draws from n t =
 
 -- the witnesses, one by one
 module _ (q n : ℕ) (draws : List ℕ) (old new a l : ℕ) where
-  pub witness-first : (x : ℕ) → x ≡ getD draws (old + l * n + a) 0 → x % q ≡ witnessOf q n draws old new a l 0 % q
-  unfolding witnessOf
+  pub witness-first : (x : ℕ) → x ≡ getD draws (old + l * n + a) 0 → x % q ≡ shiftWitness q n draws old new a l 0 % q
+  unfolding shiftWitness
   witness-first x e = let p : old + l * n + a ≡ old + (l * n + a) = omega arith in rw (e, p)
 
-  pub witness-second : (x : ℕ) → x ≡ sumBut draws (old + l * n) 1 n a % q → x % q ≡ witnessOf q n draws old new a l 1 % q
-  unfolding witnessOf sumBut
+  pub witness-second : (x : ℕ) → x ≡ sumBut draws (old + l * n) 1 n a % q → x % q ≡ shiftWitness q n draws old new a l 1 % q
+  unfolding shiftWitness sumBut
   witness-second x e =
-      let s : sumBelow n (λ i. cond (eqb i a) 0 (getD draws (old + l * n + 1 * i) 0)) ≡ sumBelow n (λ j. cond (eqb j a) 0 (drawn draws old n l j)) =
+      let s : sumBelow n (λ i. cond (eqb i a) 0 (getD draws (old + l * n + 1 * i) 0)) ≡ sumBelow n (λ j. cond (eqb j a) 0 (secretAt n draws old l j)) =
       sum-same n _ _ (λ j h. let p : old + l * n + 1 * j ≡ old + (l * n + j) = omega arith in rw p) in
       rw (e, s, mod-mod)
 
   pub witness-later : (c x : ℕ) → x ≡ (getD draws (new + c) 0 + (q - getD draws (old + (source l (c / n) * n + c % n)) 0)) % q →
-      x % q ≡ witnessOf q n draws old new a l (2 + c) % q
-  unfolding witnessOf
+      x % q ≡ shiftWitness q n draws old new a l (2 + c) % q
+  unfolding shiftWitness
   witness-later c x e = let two : 2 + c ≡ suc (suc c) = omega arith in rw (two, e, mod-mod, div-add-mod' c n)
 
-  pub witnessed-more : (c : ℕ) (x : Exponent) (s : List Exponent) → Witnessed q n draws old new a l c s → c < 64 → x .0 % q ≡ witnessOf q n draws old new a l c % q →
+  pub witnessed-more : (c : ℕ) (x : Exponent) (s : List Exponent) → Witnessed q n draws old new a l c s → c < 64 → x .0 % q ≡ shiftWitness q n draws old new a l c % q →
       Witnessed q n draws old new a l (c + 1) (set s c x)
   witnessed-more c x s w h e =
       record {

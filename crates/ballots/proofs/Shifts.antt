@@ -1,5 +1,5 @@
 -- A shift's record from its parts. Assumes nothing.
-use Prim.Native.Nat.{ℕ, _+_, _*_, _-_, _≤_}
+use Prim.Native.Nat.{ℕ, _+_, _*_, _≤_}
 use mathlib.Core.Path.{_≡_}
 use mathlib.Core.List.{List, _++_}
 use native.Mathlib.Nat.{mul-le-mul-right}
@@ -12,16 +12,16 @@ use Rattle.rules.proofs.Sizes.{few-pairs}
 use Rattle.rules.specs.Bytes.{bytes2}
 use Rattle.rules.specs.Records.{SH}
 use Rattle.rules.specs.Claims.{matrixAt}
-use Rattle.jobs.specs.Board.{pairBytes}
 use Rattle.statements.specs.declared.claims.Claim.the-variants.{Shift as Shifted}
 use Rattle.statements.specs.Claims.{claimOf, Within, InverseTable}
-use Rattle.whole.proofs.Complete.Matrices.{SameMatrix, shift-same}
+use Rattle.jobs.proofs.Matrices.{SameMatrix, shift-same}
 use Rattle.proving.specs.Plans.{Planned, proofOf}
-use Rattle.proving.proofs.Same.{proof-same}
+use Rattle.jobs.proofs.Same.{proof-same}
 use Rattle.ballots.specs.declared.shift.Shift.{Shift}
 use Rattle.ballots.specs.Parts.{Witnessed, Shifting, oldMatrix, newMatrix, shiftProofOf, shiftOf}
-use Rattle.ballots.proofs.Pages.{length-pairs}
 use Rattle.ballots.proofs.Entries.{planOf}
+use Rattle.jobs.specs.Records.{pairBytes, shiftBytes}
+use Rattle.jobs.proofs.Lengths.{length-pairs}
 
 module _ (g : Parameters) (s : Shift) (draws : List ℕ) (w : Shifting (g .p) (g .q) s draws) where
   pub count-few : s .rows * s .n ≤ 56
@@ -62,14 +62,14 @@ module _ (g : Parameters) (s : Shift) (draws : List ℕ) (w : Shifting (g .p) (g
       SameMatrix (s .rows) (s .n) (matrixAt page (s .n) 512) (newMatrix g s draws) →
       Witnessed (g .q) (s .n) draws (s .old) (s .new) (s .column) (s .struck) (2 + s .rows * s .n) t →
       proofOf label g (claimOf page g (s .n) (Shifted 0 512 (s .rows) (s .column))) (planOf (s .rows + 1) (2 + s .rows * s .n) (s .struck) (s .new + s .rows * s .n)) t draws ≡ shiftProofOf label g s draws
-  unfolding shiftProofOf claimOf
+  unfolding claimOf
   shift-proof-is label page t fo fn ft =
       proof-same sha256 label g (λ d. getD draws d 0) (s .rows + 1) (2 + s .rows * s .n) (s .struck) (s .new + s .rows * s .n) _ _ _ _
       (λ l i hl hi m. shift-same g (s .n) _ _ _ _ (s .rows) (s .column) l i fo fn (w .inside) hl hi) (ft .each)
 
   pub shift-joined : (label pairs : List ℕ) → pairs ≡ pairBytes (s .n) (newMatrix g s draws) (s .rows) →
       (SH ++ bytes2 (s .number) ++ pairs) ++ shiftProofOf label g s draws ≡ shiftOf label g s draws
-  unfolding shiftOf
+  unfolding shiftBytes
   shift-joined label pairs e = rw e
 
   pub shift-start : (pairs : List ℕ) → pairs ≡ pairBytes (s .n) (newMatrix g s draws) (s .rows) → length (SH ++ bytes2 (s .number) ++ pairs) ≡ 4 + 8 * (s .rows * s .n)

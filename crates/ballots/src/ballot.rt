@@ -7,14 +7,16 @@ use proving::Plan;
 use statements::Setup;
 use statements::claims::Claim;
 ghost use mathlib.Core.Path.{_≡_};
-ghost use Prim.Native.Nat.{_+_, _*_, _/_, _%_, _^_, _≤_, _<_};
+ghost use Prim.Native.Nat.{_+_, _*_, _^_, _≤_, _<_};
 ghost use lib.ListN.{length, getD};
 ghost use Rattle.numbers.specs.Below.{blocks};
 ghost use Rattle.group.specs.Elements.{parametersOf};
 ghost use Rattle.statements.specs.Values.{Ready};
 ghost use Rattle.output.specs.Written.{written};
 ghost use Rattle.proving.specs.Plans.{Spread};
-ghost use Rattle.ballots.specs.Parts.{matrixOf, Paged, entryOf, entryIn, proofsOf, ballotOf};
+ghost use Rattle.jobs.specs.Records.{matrixOf, ballotProofBytes, ballotBytes};
+ghost use Rattle.sha256.specs.Message.{sha256};
+ghost use Rattle.ballots.specs.Parts.{Paged, entryIn};
 
 // A page with the pairs where the record at its start would have them.
 fn page_of(g: Group, n: usize, list: [u8; 8], draws: &[u32], from: usize) -> [u8; 516]
@@ -41,7 +43,7 @@ fn write_entry(
     requires { ⌜ Ready g × (0 < n) × (n ≤ 8) × (c < n * n) × (32 ≤ length (now out)) × (516 ≤ length (now page)) ⌝ }
     requires { ⌜ Spread (g .group .q) (now draws) from (4 * (n * n) + 2 * n) ⌝ }
     requires { ⌜ Paged (now page) 0 n n (matrixOf (parametersOf (g .group)) n (λ k. getD list k 0) (now draws) from) ⌝ }
-    ensures { λ _. ⌜ now (out .exit) ≡ written (entryOf (now (label .entry)) (parametersOf (g .group)) n (λ k. getD list k 0) (now (draws .entry)) from (c / n) (c % n)) (now (out .entry)) ⌝ }
+    ensures { λ _. ⌜ now (out .exit) ≡ written (entryIn (now (label .entry)) (parametersOf (g .group)) n (λ k. getD list k 0) (now (draws .entry)) from c) (now (out .entry)) ⌝ }
 {
     let at = from + c;
     let v = pairs::opened(list, c / n, c % n);
@@ -98,7 +100,7 @@ fn write_proofs(
     requires { ⌜ Ready g × (0 < n) × (n ≤ 8) × (32 * (n * n) + 32 * n ≤ length (now out)) × (516 ≤ length (now page)) ⌝ }
     requires { ⌜ Spread (g .group .q) (now draws) from (4 * (n * n) + 2 * n) ⌝ }
     requires { ⌜ Paged (now page) 0 n n (matrixOf (parametersOf (g .group)) n (λ k. getD list k 0) (now draws) from) ⌝ }
-    ensures { λ _. ⌜ now (out .exit) ≡ written (proofsOf (now (label .entry)) (parametersOf (g .group)) n (λ k. getD list k 0) (now (draws .entry)) from) (now (out .entry)) ⌝ }
+    ensures { λ _. ⌜ now (out .exit) ≡ written (ballotProofBytes sha256 (now (label .entry)) (parametersOf (g .group)) n (λ k. getD list k 0) (now (draws .entry)) from) (now (out .entry)) ⌝ }
 {
     let count = n * n;
     write_entries(out, label, g, n, list, page, draws, from);
@@ -118,7 +120,7 @@ pub fn write_ballot(
 )
     requires { ⌜ Ready g × (0 < n) × (n ≤ 8) × (4 + 40 * (n * n) + 32 * n ≤ length (now out)) ⌝ }
     requires { ⌜ Spread (g .group .q) (now draws) from (4 * (n * n) + 2 * n) ⌝ }
-    ensures { λ _. ⌜ now (out .exit) ≡ written (ballotOf (now (label .entry)) (parametersOf (g .group)) n number (λ k. getD list k 0) (now (draws .entry)) from) (now (out .entry)) ⌝ }
+    ensures { λ _. ⌜ now (out .exit) ≡ written (ballotBytes sha256 (now (label .entry)) (parametersOf (g .group)) n number (λ k. getD list k 0) (now (draws .entry)) from) (now (out .entry)) ⌝ }
 {
     let group = g.group;
     let page = page_of(group, n, list, draws, from);

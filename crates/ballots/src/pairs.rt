@@ -9,9 +9,8 @@ ghost use Rattle.group.specs.Arithmetic.{powMod};
 ghost use Rattle.group.specs.Elements.{parametersOf};
 ghost use Rattle.rules.specs.Bytes.{bytes2, bytes4};
 ghost use Rattle.rules.specs.Group.{paired};
-ghost use Rattle.jobs.specs.Board.{pairBytes};
+ghost use Rattle.jobs.specs.Records.{opened, matrixOf, pairBytes};
 ghost use Rattle.output.specs.Written.{written};
-ghost use Rattle.ballots.specs.Parts.{opened, matrixOf};
 
 // What the pair at row i and column j opens to.
 pub fn opened(list: [u8; 8], i: usize, j: usize) -> u32

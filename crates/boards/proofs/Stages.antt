@@ -15,28 +15,23 @@ use Rattle.rules.specs.Records.{recordLength, sheetLength, roundAt}
 use Rattle.rules.specs.Count.{countsOf, table}
 use Rattle.jobs.specs.Job as J
 use Rattle.jobs.specs.Job.{rankingOf, recordDraws, roundDraws}
-use Rattle.jobs.specs.Board.{recordBytes, sheetBytes}
+use Rattle.jobs.specs.Board.{recordBytes, jobSheet}
 use Rattle.output.specs.Written.{written}
 use Rattle.output.proofs.Laws.{more, blocks-more}
 use Rattle.ballots.proofs.Entries.{spread-part}
 use Rattle.count.specs.State.{listOf}
 use Rattle.boards.specs.declared.records.Turn.{Turn}
-use Rattle.boards.specs.Parts.{Later, Turned, Told, Able, recordsOf, roundOf, sheetIn}
-use Rattle.boards.proofs.Links.{length-record, length-sheet, sheet-is}
+use Rattle.boards.specs.Parts.{Later, Turned, Told, Able, recordsOf, roundOf}
+use Rattle.jobs.proofs.Lengths.{length-record, length-sheet}
+use Rattle.jobs.proofs.Draws.{draws-mono}
+use Rattle.boards.proofs.Columns.{sheet-same}
+use Rattle.jobs.specs.Records.{sheetBytes}
 
 -- rounds further on start further on
-pub draws-up : (n K m d : ℕ) → roundDraws n K m ≤ roundDraws n K (d + m)
-unfolding roundDraws
-draws-up n K m zero = rw zero-add (omega arith)
-draws-up n K m (suc d) = rw suc-add (omega (arith, draws-up n K m d))
-
-pub place-up : (n K m d : ℕ) → roundAt n K m ≤ roundAt n K (d + m)
+place-up : (n K m d : ℕ) → roundAt n K m ≤ roundAt n K (d + m)
 unfolding roundAt
 place-up n K m zero = rw zero-add (omega arith)
 place-up n K m (suc d) = rw suc-add (omega (arith, place-up n K m d))
-
-pub draws-mono : (n K m r : ℕ) → m ≤ r → roundDraws n K m ≤ roundDraws n K r
-draws-mono n K m r h = let e : r - m + m ≡ r = omega arith in rw e at (draws-up n K m (r - m))
 
 pub place-mono : (n K m r : ℕ) → m ≤ r → roundAt n K m ≤ roundAt n K r
 place-mono n K m r h = let e : r - m + m ≡ r = omega arith in rw e at (place-up n K m (r - m))
@@ -117,13 +112,13 @@ module _ (hash : List ℕ → List ℕ) (job : J.Job) (g : Parameters) (order : 
   unfolding roundAt blocks roundOf
   length-rounds zero = refl
   length-rounds (suc m) =
-      let s = sheetBytes job g m (getD order m 0) (countsOf (job .n) (table (job .K) (rankingOf job)) (take m order)) in
+      let s = jobSheet job g m (getD order m 0) (countsOf (job .n) (table (job .K) (rankingOf job)) (take m order)) in
       omega (
         arith,
         length-append (blocks m (roundOf hash job g order)) (roundOf hash job g order m),
         length-append (recordsOf hash job g order m) s,
         length-records m,
-        length-sheet job g m (getD order m 0) (countsOf (job .n) (table (job .K) (rankingOf job)) (take m order)),
+        length-sheet (g .q) (job .n) (job .K) (job .draws) (roundDraws (job .n) (job .K) m) (recordDraws (job .n) m) m (getD order m 0) (countsOf (job .n) (table (job .K) (rankingOf job)) (take m order)),
         length-rounds m,
       )
 
@@ -131,7 +126,7 @@ module _ (hash : List ℕ → List ℕ) (job : J.Job) (g : Parameters) (order : 
   pub round-joined : (m width from stride mark : ℕ) (o l r records counts : List ℕ) → width ≡ recordLength (job .n) m → from ≡ roundDraws (job .n) (job .K) m →
       stride ≡ recordDraws (job .n) m → mark ≡ m → records ≡ recordsOf hash job g order m → l ≡ written records o →
       take (job .n) counts ≡ countsOf (job .n) (table (job .K) (rankingOf job)) (take m order) →
-      r ≡ written (sheetIn (job .n) (g .q) (job .draws) from stride (job .K) mark (getD order m 0) counts) (midOf (job .K * width) (length l - job .K * width) l) →
+      r ≡ written (sheetBytes (g .q) (job .n) (job .K) (job .draws) from stride mark (getD order m 0) counts) (midOf (job .K * width) (length l - job .K * width) l) →
       putMid (job .K * width) (length l - job .K * width) l r ≡ written (roundOf hash job g order m) o
   unfolding roundOf
   round-joined m width from stride mark o l r records counts ew ef es em ek el ec er =
@@ -139,7 +134,7 @@ module _ (hash : List ℕ → List ℕ) (job : J.Job) (g : Parameters) (order : 
       more records _ o l r (job .K * width) n el er
       ∙ ap (λ (x : List ℕ). written x o)
       (rw (ek, ef, es, em) (ap (λ (x : List ℕ). recordsOf hash job g order m ++ x)
-      (sheet-is job g m (getD order m 0) counts (countsOf (job .n) (table (job .K) (rankingOf job)) (take m order))
+      (sheet-same (g .q) (job .n) (job .K) (job .draws) (roundDraws (job .n) (job .K) m) (recordDraws (job .n) m) m (getD order m 0) counts (countsOf (job .n) (table (job .K) (rankingOf job)) (take m order))
       (λ i h. sym (getD-take (job .n) counts i 0 h) ∙ ap (λ (x : List ℕ). getD x i 0) ec))))
 
   -- one round more

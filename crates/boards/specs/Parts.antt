@@ -1,16 +1,14 @@
--- The parts of a board in the terms of what the code is handed.
-use Prim.Native.Nat.{ℕ, zero, suc, _+_, _*_, _-_, _%_, _≤_, _<_}
+-- What the code needs to write a round and a board, and the rounds told by the order of going out.
+use Prim.Native.Nat.{ℕ, zero, suc, _+_, _*_, _-_, _≤_, _<_}
 use mathlib.Core.Path.{_≡_}
 use mathlib.Core.List.{List, [], _∷_, _++_}
 use lib.ListN.{length, getD, take}
-use Rattle.numbers.specs.Below.{blocks, sumBelow}
+use Rattle.numbers.specs.Below.{blocks}
 use Rattle.group.specs.Elements.{Parameters}
-use Rattle.rules.specs.Bytes.{bytes2, bytes4}
-use Rattle.rules.specs.Records.{RT}
 use Rattle.rules.specs.Count.{countsOf, table}
 use Rattle.jobs.specs.Job as J
 use Rattle.jobs.specs.Job.{rankingOf, roundDraws, standing, placeOf}
-use Rattle.jobs.specs.Board.{recordBytes, sheetBytes}
+use Rattle.jobs.specs.Board.{recordBytes, jobSheet}
 use Rattle.proving.specs.Plans.{Spread}
 use Rattle.count.specs.State.{listOf, Listed}
 use Rattle.boards.specs.declared.Size.{Size}
@@ -20,13 +18,6 @@ use Rattle.boards.specs.declared.records.Turn.{Turn}
 abbrev pub boardJob : Size → Parameters → (label rankings draws : List ℕ) → J.Job
 boardJob size g label rankings draws =
     record { n = size .n; K = size .k; p = g .p; q = g .q; g0 = g .g0; counter = size .counter; label = label; rankings = rankings; draws = draws }
-
--- column i of a sheet: its count, and the sum of the draws of its first pairs
-abbrev pub rowIn : (q : ℕ) (draws : List ℕ) (from stride K : ℕ) (counts : List ℕ) (i : ℕ) → List ℕ
-rowIn q draws from stride K counts i = bytes2 (getD counts i 0) ++ bytes4 (sumBelow K (λ k. getD draws (from + i + stride * k) 0) % q)
-
-unfoldable pub sheetIn : (n q : ℕ) (draws : List ℕ) (from stride K m out : ℕ) (counts : List ℕ) → List ℕ
-sheetIn n q draws from stride K m out counts = RT ++ ((m + 1) ∷ out ∷ []) ++ blocks n (rowIn q draws from stride K counts)
 
 -- what round j left to the next
 pub record Later (job : J.Job) (t : Turn) (j : ℕ) : Type 0 where
@@ -84,4 +75,4 @@ module _ (hash : List ℕ → List ℕ) (job : J.Job) (g : Parameters) (order : 
 
   -- and its sheet; past the order's end, on the closing sheet, out is 0
   unfoldable pub roundOf : (m : ℕ) → List ℕ
-  roundOf m = recordsOf m ++ sheetBytes job g m (getD order m 0) (countsOf (job .n) (table (job .K) (rankingOf job)) (take m order))
+  roundOf m = recordsOf m ++ jobSheet job g m (getD order m 0) (countsOf (job .n) (table (job .K) (rankingOf job)) (take m order))

@@ -7,8 +7,8 @@ ghost use Prim.Native.Nat.{_+_, _-_, _*_, _%_, _^_, _≤_, _<_};
 ghost use lib.ListN.{length, getD};
 ghost use Rattle.numbers.specs.Below.{sumBelow};
 ghost use Rattle.rules.specs.Bytes.{bytes2, bytes4};
+ghost use Rattle.jobs.specs.Records.{sheetBytes};
 ghost use Rattle.output.specs.Written.{written};
-ghost use Rattle.boards.specs.Parts.{sheetIn};
 
 // A column of it: its count, and the sum of its first pairs' secrets.
 fn write_tally(
@@ -42,7 +42,7 @@ pub fn write_sheet(
     k: usize,
 )
     requires { ⌜ (0 < q) × (0 < k) × (k ≤ 1000) × (stride ≤ 10000) × (n ≤ 8) × (from < 2 ^ 30) × (from + n + stride * (k - 1) ≤ length (now draws)) × (4 + 6 * n ≤ length (now out)) × (m < 8) ⌝ }
-    ensures { λ _. ⌜ now (out .exit) ≡ written (sheetIn n q (now (draws .entry)) from stride k m gone (sheet .counts)) (now (out .entry)) ⌝ }
+    ensures { λ _. ⌜ now (out .exit) ≡ written (sheetBytes q n k (now (draws .entry)) from stride m gone (sheet .counts)) (now (out .entry)) ⌝ }
 {
     let counts = sheet.counts;
     output::put_two(out, 82, 84);

@@ -18,7 +18,7 @@ use Rattle.jobs.specs.declared.Reply.the-variants as W
 use Rattle.jobs.specs.declared.Written.{Written}
 use Rattle.whole.specs.ThirdDemand.{IsWritten}
 use Rattle.whole.proofs.ThirdDemand.{third-demand}
-use Rattle.whole.proofs.Complete.FineJob.{no-refusal}
+use Rattle.jobs.proofs.FineJob.{no-refusal}
 use Rattle.demand.specs.Demand.{AcceptedIsPlain, ValidIsWritten}
 
 pub accepted-is-plain : (s : List ℕ) (r : Checked) → verdictOf r ≡ checkBoard sha256 s → AcceptedIsPlain s r

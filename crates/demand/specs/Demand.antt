@@ -12,7 +12,8 @@ use Rattle.rules.specs.declared.Answer.the-variants as A
 use Rattle.jobs.specs.Job.{Job, plainResult, boardLength}
 use Rattle.jobs.specs.declared.Written.{Written}
 use Rattle.jobs.specs.declared.Reply.the-variants as W
-use Rattle.whole.specs.ThirdDemand.{IsPlain, Valid, IsWritten}
+use Rattle.whole.specs.ThirdDemand.{IsPlain, IsWritten}
+use Rattle.jobs.specs.Write.{Valid}
 
 -- an accepted board whose matrices open to rankings and struck rows has the plain count's rounds, counts, order and winner:
 -- of the answer r to the board s

@@ -54,13 +54,9 @@ module _ (job : Job) where
   abbrev pub draw : (d : ℕ) → ℕ
   draw d = getD (job .draws) d 0
 
-  -- "per record one x a pair": that of ballot k in round m at row i, column j
-  abbrev pub secret : (m k i j : ℕ) → ℕ
-  secret m k i j = draw (drawsAt (job .n) (job .K) m k + (i * job .n + j))
-
-  -- "Row i of a ballot matrix has v = 1 in the column of the process ranked i-th, else 0.", of those still in
-  abbrev pub openedTo : (gone : List ℕ) (k i j : ℕ) → ℕ
-  openedTo gone k i j = cond (eqb (getD (standing gone (rankingOf k)) i 0) (j + 1)) 1 0
+  -- the process of each row of ballot k, those gone out struck; 0 past the last
+  abbrev pub rowsOf : (gone : List ℕ) (k : ℕ) → ℕ → ℕ
+  rowsOf gone k i = getD (standing gone (rankingOf k)) i 0
 
   abbrev pub plainResult : Result
   plainResult = plainCount (job .n) (table (job .K) rankingOf)

@@ -2,6 +2,7 @@
 -- Rounds, ballots, rows, columns, branches and draws are counted from 0; processes from 1.
 pub mod Job
 pub mod Prover
+pub mod Records
 pub mod Board
 pub mod Write
 pub mod Replies

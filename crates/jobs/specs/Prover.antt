@@ -20,26 +20,36 @@ pub record Prover : Type 0 where
   pub draw : ℕ → ℕ
   pub from : ℕ
 
--- "per proof and branch, false branches a challenge and their responses, the true one its nonces"
+-- "per proof and branch, false branches a challenge and their responses, the true one its nonces": where those of branch l start
+abbrev pub branchDraws : (from statements known l : ℕ) → ℕ
+branchDraws from statements known l = from + l * (1 + statements) - cond (ltb known l) 1 0
+
 module _ (pr : Prover) where
-  abbrev pub branchDraws : (l : ℕ) → ℕ
-  branchDraws l = pr .from + l * (1 + pr .statements) - cond (ltb (pr .known) l) 1 0
+  abbrev pub drawsOf : (l : ℕ) → ℕ
+  drawsOf l = branchDraws (pr .from) (pr .statements) (pr .known) l
 
   abbrev pub falseChallenge : (l : ℕ) → ℕ
-  falseChallenge l = pr .draw (branchDraws l)
+  falseChallenge l = pr .draw (drawsOf l)
 
   abbrev pub falseResponse : (l i : ℕ) → ℕ
-  falseResponse l i = pr .draw (branchDraws l + 1 + i)
+  falseResponse l i = pr .draw (drawsOf l + 1 + i)
 
   abbrev pub nonce : (i : ℕ) → ℕ
-  nonce i = pr .draw (branchDraws (pr .known) + i)
+  nonce i = pr .draw (drawsOf (pr .known) + i)
+
+-- "A false branch's commitments follow from its equations.": at one base, for that side of the statement
+abbrev pub falseCommitment : Parameters → (base side challenge response : ℕ) → ℕ
+falseCommitment g base side e r = mulMod (g .p) (powMod (g .p) base r) (powMod (g .p) side (g .q - e))
+
+-- a branch: a challenge, then for each statement its commitments and response
+unfoldable pub branchBytes : (challenge statements : ℕ) (commitments : ℕ → List ℕ) (response : ℕ → ℕ) → List ℕ
+branchBytes e S t r = bytes4 e ++ blocks S (λ i. t i ++ bytes4 (r i))
 
 module _ (g : Parameters) (pr : Prover) where
-  -- "t1 = g0^nonce, t2 = g1^nonce"; "A false branch's commitments follow from its equations.": at one base, for that side of the statement
+  -- "t1 = g0^nonce, t2 = g1^nonce"; of a false branch as above
   unfoldable pub commitment : (base side l i : ℕ) → ℕ
   commitment base side l i =
-      cond (eqb l (pr .known)) (powMod (g .p) base (nonce pr i))
-      (mulMod (g .p) (powMod (g .p) base (falseResponse pr l i)) (powMod (g .p) side (g .q - falseChallenge pr l)))
+      cond (eqb l (pr .known)) (powMod (g .p) base (nonce pr i)) (falseCommitment g base side (falseChallenge pr l) (falseResponse pr l i))
 
   abbrev pub committed : (l i : ℕ) → List ℕ
   committed l i = bytes4 (commitment (g .g0) (pr .claim l i .left) l i) ++ bytes4 (commitment (g .g1) (pr .claim l i .right) l i)
@@ -59,5 +69,4 @@ module _ (g : Parameters) (pr : Prover) where
     responseOf l i = cond (eqb l (pr .known)) ((nonce pr i + trueChallenge * pr .witness i) % g .q) (falseResponse pr l i)
 
     unfoldable pub proofBytes : List ℕ
-    proofBytes =
-        blocks (pr .branches) (λ l. bytes4 (challengeOf l) ++ blocks (pr .statements) (λ i. committed l i ++ bytes4 (responseOf l i)))
+    proofBytes = blocks (pr .branches) (λ l. branchBytes (challengeOf l) (pr .statements) (committed l) (responseOf l))

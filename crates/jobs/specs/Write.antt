@@ -1,6 +1,7 @@
 -- Where a job stops: the writer's tests, its outcome, and what the output then holds.
 use Prim.Native.Nat.{ℕ, zero, suc, _*_}
-use mathlib.Core.Bool.{Bool, cond, _&&_}
+use mathlib.Core.Path.{_≡_}
+use mathlib.Core.Bool.{Bool, true, cond, _&&_}
 use mathlib.Core.List.{List, [], _∷_, _++_}
 use lib.Dec.{leb, ltb, eqb}
 use lib.ListN.{length, drop}
@@ -22,6 +23,20 @@ rankingsGood job = eqb (length (job .rankings)) (job .K * job .n) && allBelow (j
 -- "14: fewer than needed, or a needed one outside 1 to q−1"
 abbrev pub drawsGood : Job → Bool
 drawsGood job = leb (needed job) (length (job .draws)) && allBelow (needed job) (λ d. leb 1 (draw job d) && ltb (draw job d) (job .q))
+
+module _ (hash : List ℕ → List ℕ) (job : Job) where
+  -- none of 3, 4, 5 and 13 is due
+  pub record Passed : Type 0 where
+    pub sized : sizes (job .n) (job .K) ≡ true
+    pub ordered : orders (job .n) (job .K) (job .p) (job .q) ≡ true
+    pub labelled : labelGood hash job ≡ true
+    pub ranked : rankingsGood job ≡ true
+
+  -- from 1 to 1,000 rankings of 2 to 8 processes, in any valid group with any valid draws:
+  -- "A group with its label and counter is valid if neither 4 nor 5 is due; draws are valid if 14 is not due."
+  pub record Valid : Type 0 where
+    pub passed : Passed
+    pub drawn : drawsGood job ≡ true
 
 -- "It checks n and K (3), group (4), label and generators (5 ..), rankings (13 ..), draws (14 ..), output (15: shorter than the board)."
 -- 0 where no test fails; room: the output's length

@@ -6,7 +6,6 @@ use native.Mathlib.Omega.{arith}
 use lib.ListN.{length, length-append, length-take, length-drop}
 use borrow.Rule.Slice.PartMut.{midOf, putMid}
 use Rattle.numbers.specs.Below.{blocks}
-use Rattle.numbers.proofs.Blocks.{length-blocks}
 use Rattle.sha256.specs.declared.Hasher.{Hasher}
 use Rattle.sha256.specs.Feed.{Fed}
 use Rattle.rules.specs.Bytes.{bytes4, part}
@@ -14,7 +13,9 @@ use Rattle.group.specs.Elements.{Parameters}
 use Rattle.rules.specs.Proofs.{Statement}
 use Rattle.output.specs.Written.{written}
 use Rattle.output.proofs.Laws.{more, skip, blocks-more}
-use Rattle.proving.specs.Plans.{Stated, branchOf, truePair, falsePair}
+use Rattle.jobs.specs.Prover.{branchBytes}
+use Rattle.proving.specs.Plans.{Stated, truePair, falsePair}
+use Rattle.jobs.proofs.Lengths.{length-branch}
 
 pub length-true : (g : Parameters) (x : ℕ) → length (truePair g x) ≡ 8
 unfolding truePair
@@ -25,35 +26,28 @@ unfolding falsePair
 length-false g s e r = refl
 
 module _ (e : ℕ) (t : ℕ → List ℕ) (r : ℕ → ℕ) where
-  pub branch-none : (o : List ℕ) → written (bytes4 e) o ≡ written (branchOf e 0 t r) o
-  unfolding branchOf blocks
+  pub branch-none : (o : List ℕ) → written (bytes4 e) o ≡ written (branchBytes e 0 t r) o
+  unfolding branchBytes blocks
   branch-none o = refl
 
-  pub length-branch : (i : ℕ) → ((j : ℕ) → j < i → length (t j) ≡ 8) → length (branchOf e i t r) ≡ 4 + 12 * i
-  unfolding branchOf
-  length-branch i wide =
-      let n : length (blocks i (λ i. t i ++ bytes4 (r i))) ≡ i * 12 =
-      length-blocks i 12 (λ i. t i ++ bytes4 (r i)) (λ i h. simp length-append (omega (arith, wide i h))) in
-      simp length-append (omega arith)
-
-  pub branch-more : ((i : ℕ) → length (t i) ≡ 8) → (i a : ℕ) (o l x : List ℕ) {h k : Hasher} → a ≡ 4 + 12 * i → l ≡ written (branchOf e i t r) o →
-      Stated (t i) (r i) (midOf a (length l - a) l) x h k → putMid a (length l - a) l x ≡ written (branchOf e (i + 1) t r) o
-  unfolding branchOf
+  pub branch-more : ((i : ℕ) → length (t i) ≡ 8) → (i a : ℕ) (o l x : List ℕ) {h k : Hasher} → a ≡ 4 + 12 * i → l ≡ written (branchBytes e i t r) o →
+      Stated (t i) (r i) (midOf a (length l - a) l) x h k → putMid a (length l - a) l x ≡ written (branchBytes e (i + 1) t r) o
+  unfolding branchBytes
   branch-more wide i a o l x ea el s =
-      more (branchOf e i t r) (t i ++ bytes4 (r i)) o l x a (length-branch i (λ j _. wide j) ∙ sym ea) el (s .wrote)
+      more (branchBytes e i t r) (t i ++ bytes4 (r i)) o l x a (length-branch e i t r (λ j _. wide j) ∙ sym ea) el (s .wrote)
       ∙ rw (blocks-more (λ i. t i ++ bytes4 (r i)) i, append-assoc)
 
 -- a branch whose commitments stand there already, and whose challenge and responses are written
 module _ (e : ℕ) (r : ℕ → ℕ) (o : List ℕ) where
-  pub answer-more : (i a : ℕ) (l x : List ℕ) → a ≡ 12 + 12 * i → a + 4 ≤ length o → l ≡ written (branchOf e i (λ i. part o (4 + 12 * i) 8) r) o →
-      x ≡ written (bytes4 (r i)) (midOf a (length l - a) l) → putMid a (length l - a) l x ≡ written (branchOf e (i + 1) (λ i. part o (4 + 12 * i) 8) r) o
-  unfolding branchOf
+  pub answer-more : (i a : ℕ) (l x : List ℕ) → a ≡ 12 + 12 * i → a + 4 ≤ length o → l ≡ written (branchBytes e i (λ i. part o (4 + 12 * i) 8) r) o →
+      x ≡ written (bytes4 (r i)) (midOf a (length l - a) l) → putMid a (length l - a) l x ≡ written (branchBytes e (i + 1) (λ i. part o (4 + 12 * i) 8) r) o
+  unfolding branchBytes
   answer-more i a l x ea fits el ex =
       let t : ℕ → List ℕ = λ i. part o (4 + 12 * i) 8 in
       let wide : (j : ℕ) → j < i + 1 → length (t j) ≡ 8 = λ j h. simp (length-take, length-drop) (omega arith) in
-      let n : length (branchOf e i t r) ≡ 4 + 12 * i = length-branch e t r i (λ j h. wide j (omega arith)) in
-      let m : length (branchOf e i t r ++ t i) ≡ a = simp length-append (omega (arith, wide i (omega arith))) in
-      more (branchOf e i t r ++ t i) (bytes4 (r i)) o l x a m (skip (branchOf e i t r) o l (4 + 12 * i) 8 n (omega arith) el) ex
+      let n : length (branchBytes e i t r) ≡ 4 + 12 * i = length-branch e i t r (λ j h. wide j (omega arith)) in
+      let m : length (branchBytes e i t r ++ t i) ≡ a = simp length-append (omega (arith, wide i (omega arith))) in
+      more (branchBytes e i t r ++ t i) (bytes4 (r i)) o l x a m (skip (branchBytes e i t r) o l (4 + 12 * i) 8 n (omega arith) el) ex
       ∙ rw (blocks-more (λ i. t i ++ bytes4 (r i)) i, append-assoc, append-assoc)
 
 -- what is fed grows with it

@@ -16,7 +16,7 @@ use Rattle.sha256.specs.declared.Hasher.{Hasher}
 use Rattle.group.specs.Elements.{Parameters}
 use Rattle.rules.specs.Proofs.{Statement}
 use Rattle.proving.specs.declared.Plan.{Plan}
-use Rattle.proving.specs.Plans.{drawsOf, Drawn, againstOf, Branched, heldE, heldTs, heldRs, trueTs, trueRs, falseTs, falseRs}
+use Rattle.proving.specs.Plans.{planDraws, Drawn, againstOf, Branched, heldE, heldTs, heldRs, trueTs, trueRs, falseTs, falseRs}
 
 below : (l k b : ℕ) → l ≤ k → (l ≡ k → ⊥) → k < b → l + 2 ≤ b
 below l k b h n m = ⊎-elim (λ (e : l ≡ k). absurd (n e)) (λ (s : l < k). omega arith) (eq-or-lt-of-le h)
@@ -25,10 +25,10 @@ module _ (q : ℕ) (plan : Plan) (draws : List ℕ) (D : Drawn q plan draws) (l 
   up : (l + 1) * (1 + plan .statements) ≤ plan .branches * (1 + plan .statements)
   up = mul-le-mul-right (1 + plan .statements) (omega arith)
 
-  pub true-fits : l ≡ plan .known → drawsOf plan l + plan .statements ≤ length draws
+  pub true-fits : l ≡ plan .known → planDraws plan l + plan .statements ≤ length draws
   true-fits e = rw (le-ltb (plan .known) l (omega arith)) (omega (arith, up, D .enough))
 
-  past : (l ≡ plan .known → ⊥) → drawsOf plan l + 1 + plan .statements ≤ length draws × (drawsOf plan l + 1 < plan .from + plan .branches * (1 + plan .statements))
+  past : (l ≡ plan .known → ⊥) → planDraws plan l + 1 + plan .statements ≤ length draws × (planDraws plan l + 1 < plan .from + plan .branches * (1 + plan .statements))
   past n =
       by-cases (ltb (plan .known) l)
       (λ e.
@@ -39,11 +39,11 @@ module _ (q : ℕ) (plan : Plan) (draws : List ℕ) (D : Drawn q plan draws) (l 
       let u : (l + 2) * (1 + plan .statements) ≤ plan .branches * (1 + plan .statements) = mul-le-mul-right (1 + plan .statements) (below l (plan .known) (plan .branches) k n (D .known)) in
       rw e (omega (arith, up, u, D .enough), omega (arith, up, u, D .enough)))
 
-  pub false-fits : (l ≡ plan .known → ⊥) → drawsOf plan l + 1 + plan .statements ≤ length draws
+  pub false-fits : (l ≡ plan .known → ⊥) → planDraws plan l + 1 + plan .statements ≤ length draws
   false-fits n = past n .0
 
-  pub false-low : (l ≡ plan .known → ⊥) → getD draws (drawsOf plan l) 0 < q
-  false-low n = D .below (drawsOf plan l) (past n .1)
+  pub false-low : (l ≡ plan .known → ⊥) → getD draws (planDraws plan l) 0 < q
+  false-low n = D .below (planDraws plan l) (past n .1)
 
   -- one more branch's distance to q
   pub against-true : (sum : ℕ) → sum ≡ againstOf q plan draws l → l ≡ plan .known → sum ≡ againstOf q plan draws (l + 1)
@@ -51,19 +51,19 @@ module _ (q : ℕ) (plan : Plan) (draws : List ℕ) (D : Drawn q plan draws) (l 
   against-true sum e k = e ∙ rw (add-one, eq-eqb l (plan .known) k) (omega arith)
 
   pub against-false : (sum : ℕ) → sum ≡ againstOf q plan draws l → (l ≡ plan .known → ⊥) →
-      sum + (q - getD draws (drawsOf plan l) 0) ≡ againstOf q plan draws (l + 1)
+      sum + (q - getD draws (planDraws plan l) 0) ≡ againstOf q plan draws (l + 1)
   unfolding againstOf sumBelow
   against-false sum e k = rw (add-one, ne-eqb l (plan .known) k, e)
 
 -- what is held of a branch, by whether it is the known one
-module _ (g : Parameters) (claim : ℕ → ℕ → Statement) (plan : Plan) (draws : List ℕ) (l at S : ℕ) (o o' : List ℕ) (h k : Hasher) (a : at ≡ drawsOf plan l) where
+module _ (g : Parameters) (claim : ℕ → ℕ → Statement) (plan : Plan) (draws : List ℕ) (l at S : ℕ) (o o' : List ℕ) (h k : Hasher) (a : at ≡ planDraws plan l) where
   pub held-true : l ≡ plan .known → Branched 0 S (trueTs g draws at) (trueRs draws at) o o' h k →
       Branched (heldE plan draws l) S (heldTs g claim plan draws l) (heldRs plan draws l) o o' h k
   unfolding heldE heldTs heldRs
   held-true e b =
       subst (λ (z : Bool).
-      Branched (cond z 0 (getD draws (drawsOf plan l) 0)) S (λ i. cond z (trueTs g draws (drawsOf plan l) i) (falseTs g (claim l) draws (drawsOf plan l) i))
-      (λ i. cond z (trueRs draws (drawsOf plan l) i) (falseRs draws (drawsOf plan l) i)) o o' h k)
+      Branched (cond z 0 (getD draws (planDraws plan l) 0)) S (λ i. cond z (trueTs g draws (planDraws plan l) i) (falseTs g (claim l) draws (planDraws plan l) i))
+      (λ i. cond z (trueRs draws (planDraws plan l) i) (falseRs draws (planDraws plan l) i)) o o' h k)
       (sym (eq-eqb l (plan .known) e)) (rw a at b)
 
   pub held-false : (l ≡ plan .known → ⊥) → Branched (getD draws at 0) S (falseTs g (claim l) draws at) (falseRs draws at) o o' h k →
@@ -71,6 +71,6 @@ module _ (g : Parameters) (claim : ℕ → ℕ → Statement) (plan : Plan) (dra
   unfolding heldE heldTs heldRs
   held-false e b =
       subst (λ (z : Bool).
-      Branched (cond z 0 (getD draws (drawsOf plan l) 0)) S (λ i. cond z (trueTs g draws (drawsOf plan l) i) (falseTs g (claim l) draws (drawsOf plan l) i))
-      (λ i. cond z (trueRs draws (drawsOf plan l) i) (falseRs draws (drawsOf plan l) i)) o o' h k)
+      Branched (cond z 0 (getD draws (planDraws plan l) 0)) S (λ i. cond z (trueTs g draws (planDraws plan l) i) (falseTs g (claim l) draws (planDraws plan l) i))
+      (λ i. cond z (trueRs draws (planDraws plan l) i) (falseRs draws (planDraws plan l) i)) o o' h k)
       (sym (ne-eqb l (plan .known) e)) (rw a at b)

@@ -20,12 +20,13 @@ use Rattle.rules.specs.Bytes.{bytes4, long, part}
 use Rattle.group.specs.Elements.{Parameters}
 use Rattle.group.specs.declared.Exponent.{Exponent}
 use Rattle.rules.specs.Proofs.{Statement}
-use Rattle.jobs.specs.Prover.{Prover, committed, commitment, challengeOf, responseOf, wholeChallenge, trueChallenge, proofBytes}
+use Rattle.jobs.specs.Prover.{Prover, committed, commitment, challengeOf, responseOf, wholeChallenge, trueChallenge, proofBytes, branchBytes}
 use Rattle.output.specs.Written.{written}
 use Rattle.output.proofs.Laws.{more, patch, rest-from, blocks-more}
 use Rattle.proving.specs.declared.Plan.{Plan}
-use Rattle.proving.specs.Plans.{Branched, branchOf, heldE, heldTs, heldRs, heldBranch, againstOf, drawsOf, truePair, falsePair, answers, proverOf, proofOf}
-use Rattle.proving.proofs.Branches.{length-branch, length-true, length-false}
+use Rattle.proving.specs.Plans.{Branched, heldE, heldTs, heldRs, heldBranch, againstOf, planDraws, truePair, falsePair, answers, proverOf, proofOf}
+use Rattle.proving.proofs.Branches.{length-true, length-false}
+use Rattle.jobs.proofs.Lengths.{length-branch}
 
 -- a run of blocks around its k-th
 blocks-around : (f : ℕ → List ℕ) (k d : ℕ) → blocks (k + 1 + d) f ≡ blocks k f ++ (f k ++ blocks d (λ j. f (k + 1 + j)))
@@ -34,20 +35,20 @@ blocks-around f k zero = rw (add-zero, add-one, append-nil)
 blocks-around f k (suc d) = rw (add-suc, blocks-around f k d, append-assoc, append-assoc)
 
 branch-same : (e e' S : ℕ) (t t' : ℕ → List ℕ) (r r' : ℕ → ℕ) → e ≡ e' → ((i : ℕ) → i < S → t i ≡ t' i) → ((i : ℕ) → i < S → r i ≡ r' i) →
-    branchOf e S t r ≡ branchOf e' S t' r'
-unfolding branchOf
+    branchBytes e S t r ≡ branchBytes e' S t' r'
+unfolding branchBytes
 branch-same e e' S t t' r r' a b c =
     ap₂ _++_ (ap bytes4 a) (blocks-same S (λ i. t i ++ bytes4 (r i)) (λ i. t' i ++ bytes4 (r' i)) (λ i h. ap₂ _++_ (b i h) (ap bytes4 (c i h))))
 
 -- the commitments of a branch's i-th statement, wherever more stands after the branch
 branch-part : (e d : ℕ) (t : ℕ → List ℕ) (r : ℕ → ℕ) (y : List ℕ) → ((i : ℕ) → length (t i) ≡ 8) → (i : ℕ) →
-    part (branchOf e (i + 1 + d) t r ++ y) (4 + 12 * i) 8 ≡ t i
-unfolding branchOf
+    part (branchBytes e (i + 1 + d) t r ++ y) (4 + 12 * i) 8 ≡ t i
+unfolding branchBytes
 branch-part e d t r y wide i =
     let f : ℕ → List ℕ = λ i. t i ++ bytes4 (r i) in
     let z : List ℕ = bytes4 (r i) ++ (blocks d (λ j. f (i + 1 + j)) ++ y) in
-    let s : branchOf e (i + 1 + d) t r ++ y ≡ branchOf e i t r ++ (t i ++ z) = rw (blocks-around f i d) (simp append-assoc) in
-    rw (s, drop-at (branchOf e i t r) (t i ++ z) (4 + 12 * i) (length-branch e t r i (λ j h. wide j))) (take-at (t i) z 8 (wide i))
+    let s : branchBytes e (i + 1 + d) t r ++ y ≡ branchBytes e i t r ++ (t i ++ z) = rw (blocks-around f i d) (simp append-assoc) in
+    rw (s, drop-at (branchBytes e i t r) (t i ++ z) (4 + 12 * i) (length-branch e i t r (λ j h. wide j))) (take-at (t i) z 8 (wide i))
 
 -- a branch's end is within the proof
 pub in-proof : (plan : Plan) (l : ℕ) → l < plan .branches → (l + 1) * (4 + 12 * plan .statements) ≤ plan .branches * (4 + 12 * plan .statements)
@@ -64,7 +65,7 @@ module _ (g : Parameters) (claim : ℕ → ℕ → Statement) (plan : Plan) (dra
 
   pub length-held : (l : ℕ) → length (held l) ≡ 4 + 12 * plan .statements
   unfolding heldBranch
-  length-held l = length-branch _ _ _ (plan .statements) (λ i h. length-ts l i)
+  length-held l = length-branch _ (plan .statements) _ _ (λ i h. length-ts l i)
 
   held-part : (l i : ℕ) (y : List ℕ) → i < plan .statements → part (held l ++ y) (4 + 12 * i) 8 ≡ heldTs g claim plan draws l i
   unfolding heldBranch
@@ -101,10 +102,10 @@ module _ (label : List ℕ) (g : Parameters) (claim : ℕ → ℕ → Statement)
   first = held g claim plan draws
 
   final : ℕ → List ℕ
-  final l = branchOf (es l) (plan .statements) (ts l) (rs l)
+  final l = branchBytes (es l) (plan .statements) (ts l) (rs l)
 
   proof-is : proofOf label g claim plan witness draws ≡ blocks (plan .branches) final
-  unfolding proofBytes final branchOf
+  unfolding proofBytes final branchBytes
   proof-is = refl
 
   same-ts : (l i : ℕ) → ts l i ≡ heldTs g claim plan draws l i
@@ -116,7 +117,7 @@ module _ (label : List ℕ) (g : Parameters) (claim : ℕ → ℕ → Statement)
 
   length-final : (l : ℕ) → length (final l) ≡ 4 + 12 * plan .statements
   unfolding final
-  length-final l = length-branch _ _ _ (plan .statements) (λ i h. ap length (same-ts l i) ∙ length-ts g claim plan draws l i)
+  length-final l = length-branch _ (plan .statements) _ _ (λ i h. ap length (same-ts l i) ∙ length-ts g claim plan draws l i)
 
   -- a branch other than the known one is as it was held
   same-branch : (l : ℕ) → (l ≡ plan .known → ⊥) → first l ≡ final l
@@ -135,9 +136,9 @@ module _ (label : List ℕ) (g : Parameters) (claim : ℕ → ℕ → Statement)
       ee ∙ rw (ew, ed, ea, s)
 
   -- the known branch with its answers
-  known-branch : (e at : ℕ) (t : ℕ → List ℕ) → e ≡ c → at ≡ drawsOf plan (plan .known) →
+  known-branch : (e at : ℕ) (t : ℕ → List ℕ) → e ≡ c → at ≡ planDraws plan (plan .known) →
       ((i : ℕ) → i < plan .statements → t i ≡ heldTs g claim plan draws (plan .known) i) →
-      branchOf e (plan .statements) t (answers (g .q) e witness draws at) ≡ final (plan .known)
+      branchBytes e (plan .statements) t (answers (g .q) e witness draws at) ≡ final (plan .known)
   unfolding final
   known-branch e at t h a s =
       let k : eqb (plan .known) (plan .known) ≡ true = eq-eqb (plan .known) (plan .known) refl in
@@ -154,9 +155,9 @@ module _ (label : List ℕ) (g : Parameters) (claim : ℕ → ℕ → Statement)
         let n : plan .branches ≡ plan .known + 1 + rest = omega arith in
         ap (λ (m : ℕ). blocks m f) n ∙ blocks-around f (plan .known) rest
 
-    pub joined : (o l r : List ℕ) (a e at : ℕ) → a ≡ plan .known * (4 + 12 * plan .statements) → e ≡ c → at ≡ drawsOf plan (plan .known) →
+    pub joined : (o l r : List ℕ) (a e at : ℕ) → a ≡ plan .known * (4 + 12 * plan .statements) → e ≡ c → at ≡ planDraws plan (plan .known) →
         l ≡ written (blocks (plan .branches) first) o →
-        r ≡ written (branchOf e (plan .statements) (λ i. part (midOf a (length l - a) l) (4 + 12 * i) 8) (answers (g .q) e witness draws at)) (midOf a (length l - a) l) →
+        r ≡ written (branchBytes e (plan .statements) (λ i. part (midOf a (length l - a) l) (4 + 12 * i) 8) (answers (g .q) e witness draws at)) (midOf a (length l - a) l) →
         putMid a (length l - a) l r ≡ written (proofOf label g claim plan witness draws) o
     joined o l r a e at ea ee eat el er =
         let x : List ℕ = blocks (plan .known) first in
@@ -164,7 +165,7 @@ module _ (label : List ℕ) (g : Parameters) (claim : ℕ → ℕ → Statement)
         let y : List ℕ = blocks rest (λ j. first (plan .known + 1 + j)) in
         let n : length x ≡ a = length-blocks (plan .known) (4 + 12 * plan .statements) first (λ l h. length-held g claim plan draws l) ∙ sym ea in
         let el' : l ≡ written (x ++ (old ++ y)) o = el ∙ ap (λ (w : List ℕ). written w o) (around first) in
-        let new : branchOf e (plan .statements) (λ i. part (midOf a (length l - a) l) (4 + 12 * i) 8) (answers (g .q) e witness draws at) ≡ final (plan .known) =
+        let new : branchBytes e (plan .statements) (λ i. part (midOf a (length l - a) l) (4 + 12 * i) 8) (answers (g .q) e witness draws at) ≡ final (plan .known) =
         known-branch e at (λ i. part (midOf a (length l - a) l) (4 + 12 * i) 8) ee eat
         (λ i h. rw (rest-from x (old ++ y) o l a n el', append-assoc) (held-part g claim plan draws (plan .known) i _ h)) in
         let m : length (final (plan .known)) ≡ length old = length-final (plan .known) ∙ sym (length-held g claim plan draws (plan .known)) in

@@ -1,4 +1,3 @@
-pub mod Same
 pub mod Stating
 pub mod Branches
 pub mod Draws

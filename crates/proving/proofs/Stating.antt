@@ -7,7 +7,8 @@ use Rattle.rules.specs.Bytes.{bytes4}
 use Rattle.group.specs.Elements.{Parameters}
 use Rattle.rules.specs.Proofs.{Statement}
 use Rattle.group.specs.Arithmetic.{powMod}
-use Rattle.proving.specs.Plans.{Stated, truePair, falsePair, falseSide}
+use Rattle.jobs.specs.Prover.{falseCommitment}
+use Rattle.proving.specs.Plans.{Stated, truePair, falsePair}
 
 module _ (r : ℕ) (o o' : List ℕ) (h k : Hasher) where
   pub stated-true : (g : Parameters) (x t1 t2 : ℕ) → t1 ≡ powMod (g .p) (g .g0) x → t2 ≡ powMod (g .p) (g .g1) x →
@@ -15,7 +16,7 @@ module _ (r : ℕ) (o o' : List ℕ) (h k : Hasher) where
   unfolding truePair
   stated-true g x t1 t2 e f s = rw (e, f) at s
 
-  pub stated-false : (g : Parameters) (st : Statement) (e x t1 t2 : ℕ) → t1 ≡ falseSide g (g .g0) (st .left) e x → t2 ≡ falseSide g (g .g1) (st .right) e x →
+  pub stated-false : (g : Parameters) (st : Statement) (e x t1 t2 : ℕ) → t1 ≡ falseCommitment g (g .g0) (st .left) e x → t2 ≡ falseCommitment g (g .g1) (st .right) e x →
       Stated (bytes4 t1 ++ bytes4 t2) r o o' h k → Stated (falsePair g st e x) r o o' h k
   unfolding falsePair
   stated-false g st e x t1 t2 f f' s = rw (f, f') at s

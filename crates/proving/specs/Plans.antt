@@ -3,15 +3,15 @@ use Prim.Native.Nat.{ℕ, _+_, _*_, _-_, _%_, _^_, _≤_, _<_}
 use mathlib.Core.Path.{_≡_}
 use mathlib.Core.Bool.{cond}
 use mathlib.Core.List.{List, _++_}
-use lib.Dec.{ltb, eqb}
+use lib.Dec.{eqb}
 use lib.ListN.{length, getD}
 use Rattle.numbers.specs.Below.{sumBelow, blocks}
-use Rattle.group.specs.Arithmetic.{mulMod, powMod}
+use Rattle.group.specs.Arithmetic.{powMod}
 use Rattle.rules.specs.Bytes.{bytes4}
 use Rattle.group.specs.Elements.{Parameters}
 use Rattle.group.specs.declared.Exponent.{Exponent}
 use Rattle.rules.specs.Proofs.{Statement}
-use Rattle.jobs.specs.Prover.{Prover, proofBytes}
+use Rattle.jobs.specs.Prover.{Prover, proofBytes, branchDraws, falseCommitment, branchBytes}
 use Rattle.sha256.specs.Message.{sha256}
 use Rattle.sha256.specs.Feed.{Fed}
 use Rattle.sha256.specs.declared.Hasher.{Hasher}
@@ -24,20 +24,13 @@ use Rattle.proving.specs.declared.Plan.{Plan}
 unfoldable pub truePair : Parameters → (nonce : ℕ) → List ℕ
 truePair g x = bytes4 (powMod (g .p) (g .g0) x) ++ bytes4 (powMod (g .p) (g .g1) x)
 
-abbrev pub falseSide : Parameters → (base side e r : ℕ) → ℕ
-falseSide g base side e r = mulMod (g .p) (powMod (g .p) base r) (powMod (g .p) side (g .q - e))
-
 unfoldable pub falsePair : Parameters → Statement → (e r : ℕ) → List ℕ
-falsePair g s e r = bytes4 (falseSide g (g .g0) (s .left) e r) ++ bytes4 (falseSide g (g .g1) (s .right) e r)
+falsePair g s e r = bytes4 (falseCommitment g (g .g0) (s .left) e r) ++ bytes4 (falseCommitment g (g .g1) (s .right) e r)
 
 -- a statement was written, and its commitments fed
 pub record Stated (t : List ℕ) (r : ℕ) (before after : List ℕ) (h k : Hasher) : Type 0 where
   pub wrote : after ≡ written (t ++ bytes4 r) before
   pub fed : (m : List ℕ) → Fed h m → Fed k (m ++ t)
-
--- a branch: a challenge, then for each statement its commitments and response
-unfoldable pub branchOf : (e S : ℕ) (t : ℕ → List ℕ) (r : ℕ → ℕ) → List ℕ
-branchOf e S t r = bytes4 e ++ blocks S (λ i. t i ++ bytes4 (r i))
 
 -- of the drawn branch whose draws start at a place
 abbrev pub falseTs : Parameters → (ℕ → Statement) → (draws : List ℕ) (at : ℕ) → ℕ → List ℕ
@@ -55,7 +48,7 @@ trueRs draws at i = getD draws (at + i) 0
 
 -- a branch was written, and its commitments fed
 pub record Branched (e S : ℕ) (t : ℕ → List ℕ) (r : ℕ → ℕ) (before after : List ℕ) (h k : Hasher) : Type 0 where
-  pub wrote : after ≡ written (branchOf e S t r) before
+  pub wrote : after ≡ written (branchBytes e S t r) before
   pub fed : (m : List ℕ) → Fed h m → Fed k (m ++ blocks S t)
 
 -- the i-th witness, as a number
@@ -67,8 +60,8 @@ abbrev pub answers : (q e : ℕ) (witness : List Exponent) (draws : List ℕ) (a
 answers q e witness draws at i = (getD draws (at + i) 0 + e * witnessAt witness i) % q
 
 -- where a branch's draws start
-abbrev pub drawsOf : Plan → ℕ → ℕ
-drawsOf plan l = plan .from + l * (1 + plan .statements) - cond (ltb (plan .known) l) 1 0
+abbrev pub planDraws : Plan → ℕ → ℕ
+planDraws plan l = branchDraws (plan .from) (plan .statements) (plan .known) l
 
 -- the plan's draws are there, and those that it uses are below q
 pub record Drawn (q : ℕ) (plan : Plan) (draws : List ℕ) : Type 0 where
@@ -88,16 +81,16 @@ pub record Planned (g : Parameters) (page inverses : List ℕ) (n : ℕ) (claim 
 
 -- a branch before the known one's challenge is known: 0 stands for it, and the nonces for the responses
 unfoldable pub heldE : Plan → (draws : List ℕ) (l : ℕ) → ℕ
-heldE plan draws l = cond (eqb l (plan .known)) 0 (getD draws (drawsOf plan l) 0)
+heldE plan draws l = cond (eqb l (plan .known)) 0 (getD draws (planDraws plan l) 0)
 
 unfoldable pub heldTs : Parameters → (ℕ → ℕ → Statement) → Plan → (draws : List ℕ) (l i : ℕ) → List ℕ
-heldTs g claim plan draws l i = cond (eqb l (plan .known)) (trueTs g draws (drawsOf plan l) i) (falseTs g (claim l) draws (drawsOf plan l) i)
+heldTs g claim plan draws l i = cond (eqb l (plan .known)) (trueTs g draws (planDraws plan l) i) (falseTs g (claim l) draws (planDraws plan l) i)
 
 unfoldable pub heldRs : Plan → (draws : List ℕ) (l i : ℕ) → ℕ
-heldRs plan draws l i = cond (eqb l (plan .known)) (trueRs draws (drawsOf plan l) i) (falseRs draws (drawsOf plan l) i)
+heldRs plan draws l i = cond (eqb l (plan .known)) (trueRs draws (planDraws plan l) i) (falseRs draws (planDraws plan l) i)
 
 unfoldable pub heldBranch : Parameters → (ℕ → ℕ → Statement) → Plan → (draws : List ℕ) (l : ℕ) → List ℕ
-heldBranch g claim plan draws l = branchOf (heldE plan draws l) (plan .statements) (heldTs g claim plan draws l) (heldRs plan draws l)
+heldBranch g claim plan draws l = branchBytes (heldE plan draws l) (plan .statements) (heldTs g claim plan draws l) (heldRs plan draws l)
 
 -- every branch was so written, and its commitments fed after the label
 pub record Committed (label : List ℕ) (g : Parameters) (claim : ℕ → ℕ → Statement) (plan : Plan) (draws before after : List ℕ) (k : Hasher) : Type 0 where
@@ -105,7 +98,7 @@ pub record Committed (label : List ℕ) (g : Parameters) (claim : ℕ → ℕ �
   pub fed : Fed k (label ++ blocks (plan .branches) (λ l. blocks (plan .statements) (heldTs g claim plan draws l)))
 
 unfoldable pub againstOf : (q : ℕ) → Plan → (draws : List ℕ) → ℕ → ℕ
-againstOf q plan draws n = sumBelow n (λ l. cond (eqb l (plan .known)) 0 (q - getD draws (drawsOf plan l) 0))
+againstOf q plan draws n = sumBelow n (λ l. cond (eqb l (plan .known)) 0 (q - getD draws (planDraws plan l) 0))
 
 -- what the rules say of the maker of a proof under a plan
 abbrev pub proverOf : (ℕ → ℕ → Statement) → Plan → (witness : List Exponent) (draws : List ℕ) → Prover

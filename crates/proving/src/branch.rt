@@ -15,12 +15,13 @@ ghost use Rattle.rules.specs.Bytes.{part};
 ghost use Rattle.statements.specs.Values.{Ready};
 ghost use Rattle.statements.specs.Claims.{claimOf, Within};
 ghost use Rattle.output.specs.Written.{written};
-ghost use Rattle.proving.specs.Plans.{Branched, branchOf, answers, drawsOf, Planned, heldE, heldTs, heldRs, falseTs, falseRs, trueTs, trueRs};
+ghost use Rattle.jobs.specs.Prover.{branchBytes};
+ghost use Rattle.proving.specs.Plans.{Branched, answers, planDraws, Planned, heldE, heldTs, heldRs, falseTs, falseRs, trueTs, trueRs};
 
 // Where a branch's draws start.
 pub fn branch_draws(plan: Plan, l: usize) -> usize
     requires { ⌜ (l < 9) × (plan .statements < 100) × (plan .from < 2 ^ 40) ⌝ }
-    ensures { λ r. ⌜ r ≡ drawsOf plan l ⌝ }
+    ensures { λ r. ⌜ r ≡ planDraws plan l ⌝ }
 {
     let at = plan.from + l * (1 + plan.statements);
     if plan.known < l {
@@ -143,7 +144,7 @@ pub fn answer(
 )
     requires { ⌜ (0 < q) × (statements ≤ 64) × (4 + 12 * statements ≤ length (now out)) ⌝ }
     requires { ⌜ at + statements ≤ length (now draws) ⌝ }
-    ensures { λ _. ⌜ now (out .exit) ≡ written (branchOf (e .0) statements (λ i. part (now (out .entry)) (4 + 12 * i) 8) (answers q (e .0) witness (now (draws .entry)) at)) (now (out .entry)) ⌝ }
+    ensures { λ _. ⌜ now (out .exit) ≡ written (branchBytes (e .0) statements (λ i. part (now (out .entry)) (4 + 12 * i) 8) (answers q (e .0) witness (now (draws .entry)) at)) (now (out .entry)) ⌝ }
 {
     output::put_word(out, e.0);
     for i in 0..statements {

@@ -6,18 +6,18 @@ use sha256::Hasher;
 use statements::Statement;
 ghost use mathlib.Core.Path.{_≡_};
 ghost use mathlib.Core.List.{_++_};
-ghost use Prim.Native.Nat.{_-_, _≤_, _<_};
+ghost use Prim.Native.Nat.{_≤_, _<_};
 ghost use lib.ListN.{length};
-ghost use Rattle.group.specs.Arithmetic.{mulMod, powMod};
 ghost use Rattle.group.specs.Elements.{parametersOf};
 ghost use Rattle.rules.specs.Bytes.{bytes4};
+ghost use Rattle.jobs.specs.Prover.{falseCommitment};
 ghost use Rattle.statements.specs.Values.{statementOf};
 ghost use Rattle.proving.specs.Plans.{truePair, falsePair, Stated};
 
 // A false branch's commitment follows from its equation.
 fn commitment(g: Group, base: Element, side: Element, e: Exponent, r: Exponent) -> Element
     requires { ⌜ (0 < g .p) × (e .0 < g .q) ⌝ }
-    ensures { λ t. ⌜ t .0 ≡ mulMod (g .p) (powMod (g .p) (base .0) (r .0)) (powMod (g .p) (side .0) (g .q - e .0)) ⌝ }
+    ensures { λ t. ⌜ t .0 ≡ falseCommitment (parametersOf g) (base .0) (side .0) (e .0) (r .0) ⌝ }
 {
     let p = g.p;
     let q = g.q;

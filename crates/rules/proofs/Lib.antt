@@ -3,3 +3,6 @@ pub mod Faults
 pub mod Lists
 pub mod Leaving
 pub mod Sizes
+pub mod Orders
+pub mod Elements
+pub mod Places

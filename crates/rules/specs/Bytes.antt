@@ -1,7 +1,8 @@
 -- "All fields are unsigned, high byte first."
-use Prim.Native.Nat.{ℕ, _+_, _*_, _/_, _%_}
+use Prim.Native.Nat.{ℕ, _+_, _*_, _/_, _%_, _≤_, _<_}
+use mathlib.Core.Path.{_≡_}
 use mathlib.Core.List.{List, [], _∷_}
-use lib.ListN.{getD, take, drop}
+use lib.ListN.{length, getD, take, drop}
 
 -- the len bytes at a place
 abbrev pub part : (s : List ℕ) (at len : ℕ) → List ℕ
@@ -23,3 +24,8 @@ bytes2 x = x / 256 % 256 ∷ x % 256 ∷ []
 
 abbrev pub bytes4 : ℕ → List ℕ
 bytes4 x = x / 16777216 % 256 ∷ x / 65536 % 256 ∷ x / 256 % 256 ∷ x % 256 ∷ []
+
+-- for contracts and laws: a list stands in another at a place
+pub record Stands (s : List ℕ) (at : ℕ) (x : List ℕ) : Type 0 where
+  pub fits : at + length x ≤ length s
+  pub same : (d : ℕ) → d < length x → getD s (at + d) 0 ≡ getD x d 0

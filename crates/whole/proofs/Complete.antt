@@ -1,24 +1,21 @@
 -- Whatever job has no refusal, its board is accepted, with the plain count's rounds, order, winner and counts.
-pub mod Places
 pub mod Honest
-pub mod FineJob
 pub mod Claims
 pub mod Written
 pub mod WrittenShift
-pub mod Matrices
 pub mod BallotRecord
 pub mod ShiftRecord
 pub mod SheetRecord
 pub mod Rounds
 use Prim.Native.Nat.{ℕ, _+_, _-_, _<_, zero-le}
-use native.Mathlib.Nat.{sub-zero, mod-lt}
+use native.Mathlib.Nat.{mod-lt}
 use native.Mathlib.Omega.{arith}
-use mathlib.Core.Path.{subst, subst⁻¹, _≡_, refl, sym}
+use mathlib.Core.Path.{subst, subst⁻¹, _≡_, sym, refl}
 use mathlib.Core.Bool.{true, and-eq-true-iff}
 use mathlib.Core.List.{List, [], _∷_, _++_}
 use lib.ListN.{length, getD, length-append}
 use borrow.Author.Tests.{le-leb, ltb-true}
-use Rattle.rules.specs.Bytes.{half, word, part, bytes2, bytes4}
+use Rattle.rules.specs.Bytes.{half, word, part, bytes2, bytes4, Stands}
 use Rattle.group.specs.Elements.{Parameters, isElement}
 use Rattle.rules.specs.Group.{generators, derived}
 use Rattle.group.specs.Arithmetic.{powMod}
@@ -27,16 +24,16 @@ use Rattle.rules.specs.Count.{start, isRanking, table, plainCount}
 use Rattle.rules.specs.Check.{firstFault, header, headerFault, checkFrom, accepted, checkBoard, matrix}
 use Rattle.jobs.specs.Job.{Job, groupOf, headerOf, rankingOf, boardLength, plainResult}
 use Rattle.jobs.specs.Board.{roundsFrom, board}
-use Rattle.whole.specs.ThirdDemand.{Valid, IsWritten, IsPlain}
-use Rattle.jobs.specs.Write.{writeOutcome}
-use Rattle.whole.proofs.Complete.FineJob.{no-refusal, Fine, fine, good-group}
+use Rattle.whole.specs.ThirdDemand.{IsWritten, IsPlain}
+use Rattle.jobs.specs.Write.{Valid, writeOutcome}
+use Rattle.jobs.proofs.FineJob.{no-refusal, Fine, fine, good-group}
 use Rattle.rules.specs.Openings.{Opens, OpensTo, listAt}
 use Rattle.whole.proofs.Sound.{sound}
-use Rattle.whole.proofs.Elements.{Good}
-use Rattle.whole.proofs.Lists.{standing-all}
-use Rattle.whole.proofs.Rankings.{ranking-length}
+use Rattle.rules.proofs.Elements.{Good}
+use Rattle.jobs.proofs.Lists.{standing-all}
 use Rattle.whole.proofs.Complete.Rounds.{Reach, rounds}
-use Rattle.whole.proofs.Complete.Places.{Stands, stands-whole, stands-left, stands-right, half-stands, word-stands, part-stands}
+use Rattle.rules.proofs.Places.{stands-whole, stands-left, stands-right, half-stands, word-stands, part-stands}
+use Rattle.jobs.proofs.Counting.{first-reached}
 
 module _ (hash : List ℕ → List ℕ) (job : Job) (f : Fine hash job) where
   abbrev g : Parameters
@@ -133,19 +130,14 @@ module _ (hash : List ℕ → List ℕ) (job : Job) (f : Fine hash job) where
       )
 
   begun : Reach hash job s (job .n) start 0 [] 0
-  unfolding roundAt plainCount listAt
+  unfolding roundAt listAt
   begun =
       record {
-        fuelled = omega arith;
-        early = f .n-low;
-        sheeted = refl;
-        out = refl;
-        short = λ k l. rw (standing-all (rankingOf job k), sub-zero) (omega (arith, ranking-length (job .n) (rankingOf job k) (f .ranked k l)));
+        count = first-reached job (f .ranked) (f .n-low);
         listed = λ k. sym (standing-all (rankingOf job k));
         prior = refl;
         rest = stands-right (job .label) later (f .labelled) after-g1;
         whole = long;
-        plain = refl;
       }
 
 pub written : (hash : List ℕ → List ℕ) (job : Job) → Valid hash job → IsWritten hash job (board hash job) (plainResult job)

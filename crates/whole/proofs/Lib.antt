@@ -1,8 +1,4 @@
--- The proofs: laws of lists and rankings, of the group, the second demand, both halves of the third, the refusals and the starred cases.
-pub mod Lists
-pub mod Rankings
-pub mod Orders
-pub mod Elements
+-- The proofs: the second demand, both halves of the third, the refusals and the starred cases.
 pub mod Rules
 pub mod Verdicts
 pub mod Sound

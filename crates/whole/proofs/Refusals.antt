@@ -17,7 +17,7 @@ use Rattle.numbers.proofs.Search.{extend}
 use Rattle.rules.specs.Check.{refused, Test, firstFault, Header, header, sheetFields, sheetFault, headerFault, recordFault, checkBoard}
 use Rattle.whole.specs.Refusals.{BoardRefusal, JobRefusal, Refusals}
 use Rattle.numbers.proofs.Tests.{by-cases, or-false-left, and-true, all-true}
-use Rattle.whole.proofs.Complete.FineJob.{valid, no-refusal}
+use Rattle.jobs.proofs.FineJob.{valid, no-refusal}
 use Rattle.rules.proofs.Faults.{fault-none, fault-is}
 use Rattle.whole.proofs.Sound.Accepted.{header-good}
 use Rattle.whole.specs.SecondDemand.{outBefore, dueAt, FirstBroken, in-header, in-record, in-sheet, at-end}

@@ -15,7 +15,7 @@ use borrow.Author.Tests.{eqb-false}
 use Rattle.numbers.specs.Below.{sumBelow}
 use Rattle.numbers.proofs.Search.{extend}
 use Rattle.rules.proofs.Lists.{length-table, table-same, votes-table}
-use Rattle.whole.proofs.Lists.{votes-sum, standing-all, first-standing, strike, ranked-processes}
+use Rattle.jobs.proofs.Lists.{votes-sum, standing-all, first-standing, strike, ranked-processes}
 use Rattle.numbers.proofs.Tests.{or-false-left}
 use Rattle.numbers.proofs.Sums.{sum-same, sum-constant}
 use Rattle.whole.specs.ThirdDemand.{IsPlain, sheetsOn}

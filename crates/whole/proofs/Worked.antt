@@ -22,7 +22,7 @@ use Rattle.rules.specs.Records.{roundAt}
 use Rattle.rules.specs.Count.{Standing, roundOf, start, member, countOf, leaves, lowest, majority, closes, isRanking, table, plainCount}
 use Rattle.rules.specs.Openings.{without}
 use Rattle.jobs.specs.Job.{needed, roundDraws, boardLength}
-use Rattle.whole.specs.ThirdDemand.{Valid}
+use Rattle.jobs.specs.Write.{Valid}
 use Rattle.whole.specs.Worked.{Pair, circle, smallJob, Circle, Worked}
 use Rattle.whole.proofs.Complete.{written}
 
@@ -102,10 +102,7 @@ small-valid : Valid sha256 smallJob
 unfolding orders generators isPrime isElement powMod allBelow isRanking
 small-valid =
     record {
-      sized = refl;
-      ordered = refl;
-      labelled = rw small-made;
-      ranked = refl;
+      passed = record { sized = refl; ordered = refl; labelled = rw small-made; ranked = refl };
       drawn = rw (circle-draws sha256 23 11 2 1 (replicate 32 0) (replicate 222 5));
     }
 

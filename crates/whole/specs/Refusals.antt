@@ -9,8 +9,7 @@ use Rattle.rules.specs.Records.{roundAt}
 use Rattle.rules.specs.Count.{member, isRanking, start, countFrom, plainCount}
 use Rattle.rules.specs.Check.{header, refused, checkBoard}
 use Rattle.jobs.specs.Job.{Job, rankingOf, boardLength}
-use Rattle.whole.specs.ThirdDemand.{Valid}
-use Rattle.jobs.specs.Write.{jobFault, jobRefused, writeOutcome}
+use Rattle.jobs.specs.Write.{jobFault, jobRefused, writeOutcome, Valid}
 
 -- "The result of a refusal is its number and the record's number (with 12, the number of records read)"
 pub record BoardRefusal (s : List ℕ) (number place : ℕ) : Type 0 where

@@ -1,18 +1,17 @@
 -- The third demand as one statement about whole boards, first byte to last. docs/THIRD_DEMAND.md puts it beside the demand's words.
 use Prim.Native.Nat.{ℕ, _+_, _-_, _≤_, _<_}
 use mathlib.Core.Path.{_≡_}
-use mathlib.Core.Bool.{true, cond}
+use mathlib.Core.Bool.{cond}
 use mathlib.Core.List.{List}
 use lib.ListN.{length}
 use Rattle.numbers.specs.Below.{sumBelow}
-use Rattle.rules.specs.Group.{sizes, orders}
 use Rattle.rules.specs.Records.{RT, hasMark, roundAt}
 use Rattle.rules.specs.Count.{table, Result, plainCount}
 use Rattle.rules.specs.Check.{accepted, header, place, outField, countField, counts, checkBoard}
 use Rattle.rules.specs.Openings.{Opens}
 use Rattle.jobs.specs.Job.{Job, headerOf, rankingOf, plainResult, boardLength}
 use Rattle.jobs.specs.Board.{board}
-use Rattle.jobs.specs.Write.{labelGood, rankingsGood, drawsGood, boardWritten, writeOutcome}
+use Rattle.jobs.specs.Write.{Valid, boardWritten, writeOutcome}
 
 -- "the number of RT on the board", of its records in so many rounds
 abbrev pub sheetsOn : (s : List ℕ) (rounds : ℕ) → ℕ
@@ -32,15 +31,6 @@ pub record IsPlain (s : List ℕ) (rounds : ℕ) (order : List ℕ) (winner : �
   pub sums : (m : ℕ) → m < rounds → sumBelow (header s .n) (countField s (header s) m) ≡ header s .K
 
 module _ (hash : List ℕ → List ℕ) where
-  -- from 1 to 1,000 rankings of 2 to 8 processes, in any valid group with any valid draws:
-  -- "A group with its label and counter is valid if neither 4 nor 5 is due; draws are valid if 14 is not due."
-  pub record Valid (job : Job) : Type 0 where
-    pub sized : sizes (job .n) (job .K) ≡ true
-    pub ordered : orders (job .n) (job .K) (job .p) (job .q) ≡ true
-    pub labelled : labelGood hash job ≡ true
-    pub ranked : rankingsGood job ≡ true
-    pub drawn : drawsGood job ≡ true
-
   -- the board of a job is accepted with the plain count's result, opens to the job's rankings and says on every sheet what the plain count says
   pub record IsWritten (job : Job) (s : List ℕ) (plain : Result) : Type 0 where
     pub heads : header s ≡ headerOf hash job
@@ -58,4 +48,4 @@ module _ (hash : List ℕ → List ℕ) where
         Opens s rankings rounds →
         IsPlain s rounds order winner (plainCount (header s .n) (table (header s .K) rankings))
     -- every board written by the rules from 1 to 1,000 rankings of 2 to 8 processes, in any valid group with any valid draws, is accepted with that count
-    pub written-boards : (job : Job) → Valid job → IsWritten job (board hash job) (plainResult job)
+    pub written-boards : (job : Job) → Valid hash job → IsWritten job (board hash job) (plainResult job)

@@ -14,7 +14,7 @@ use Rattle.rules.specs.Check.{accepted, checkBoard}
 use Rattle.rules.specs.Openings.{Opening, without}
 use Rattle.jobs.specs.Job.{Job, needed}
 use Rattle.jobs.specs.Board.{board}
-use Rattle.whole.specs.ThirdDemand.{Valid}
+use Rattle.jobs.specs.Write.{Valid}
 
 abbrev pub small : Parameters
 small = record { p = 23; q = 11; g0 = 2; g1 = 3 }

@@ -1,7 +1,7 @@
 -- The board that is written is the job's. Assumes nothing.
-use Prim.Native.Nat.{ℕ, _*_, _-_, _≤_}
+use Prim.Native.Nat.{ℕ, _*_, _-_, _≤_, _<_}
 use mathlib.Core.Path.{_≡_, sym, ap, subst, _∙_}
-use mathlib.Core.Bool.{and-eq-true-iff}
+use mathlib.Core.Bool.{and-eq-true-iff, true}
 use mathlib.Core.List.{List, _++_}
 use native.Mathlib.Omega.{arith}
 use borrow.Author.Tests.{eqb-true, leb-true}
@@ -12,14 +12,13 @@ use Rattle.sha256.specs.Message.{sha256}
 use Rattle.group.specs.Elements.{Parameters}
 use Rattle.rules.specs.Answers.{padded}
 use Rattle.rules.specs.Records.{roundAt}
-use Rattle.jobs.specs.Job.{Job, groupOf, needed, boardLength, plainResult, roundDraws}
+use Rattle.jobs.specs.Job.{Job, groupOf, needed, boardLength, plainResult, roundDraws, rankingOf}
 use Rattle.jobs.specs.Board.{headerBytes, boardBytes, board}
-use Rattle.jobs.specs.Write.{boardWritten, writeOutcome, writeOutput}
+use Rattle.jobs.specs.Write.{boardWritten, writeOutcome, writeOutput, Valid}
 use Rattle.jobs.specs.Replies.{outcomeOf}
 use Rattle.jobs.specs.declared.Written.{Written}
-use Rattle.whole.specs.ThirdDemand.{Valid}
-use Rattle.whole.proofs.Orders.{orders-of-test}
-use Rattle.whole.proofs.Complete.FineJob.{fine, good-group, no-refusal}
+use Rattle.rules.proofs.Orders.{orders-of-test}
+use Rattle.jobs.proofs.FineJob.{fine, good-group, no-refusal}
 use Rattle.plain.specs.Measures.{Measured}
 use Rattle.plain.specs.declared.rounds.Measure.{Measure}
 use Rattle.output.specs.Written.{written}
@@ -30,6 +29,7 @@ use Rattle.boards.proofs.Stages.{length-rounds, length-header, place-least}
 use Rattle.boards.proofs.Turns.{front-of}
 use Rattle.writer.specs.Steps.{bytesOf}
 use Rattle.writer.proofs.Outcomes.{Answered}
+use Rattle.rules.specs.Count.{isRanking}
 
 abbrev size : Job → Size
 size job = record { n = job .n; k = job .K; counter = job .counter }
@@ -46,12 +46,15 @@ module _ (job : Job) (v : Valid sha256 job) where
   many : 2 ≤ job .n
   many = fine sha256 job v .n-low
 
+  ranked : (k : ℕ) → k < job .K → isRanking (job .n) (rankingOf job k) ≡ true
+  ranked = fine sha256 job v .ranked
+
   able : (order : List ℕ) (rounds : ℕ) → order ≡ padded (plainResult job .order) → rounds ≡ plainResult job .rounds → roundDraws (job .n) (job .K) rounds ≤ 10000000 → Able job order rounds
   unfolding needed
   able order rounds eo er low =
       let f = fine sha256 job v in
       let w = and-eq-true-iff (leb (needed job) (length (job .draws))) _ .0 (v .drawn) in
-      let d = and-eq-true-iff (eqb (length (job .rankings)) (job .K * job .n)) _ .0 (v .ranked) in
+      let d = and-eq-true-iff (eqb (length (job .rankings)) (job .K * job .n)) _ .0 (v .passed .ranked) in
       let enough : needed job ≤ length (job .draws) = leb-true _ _ (w .0) in
       let q = orders-of-test (job .n) (job .K) (job .p) (job .q) (f .ordered) .prime-q .large in
       let g = good-group sha256 job f in
@@ -62,7 +65,7 @@ module _ (job : Job) (v : Valid sha256 job) where
         K-low = f .K-low;
         K-high = f .K-high;
         listed = eqb-true _ _ (d .0);
-        few = few-rounds sha256 job (groupOf sha256 job) many;
+        few = few-rounds sha256 job (groupOf sha256 job) ranked many;
         drawn =
             record {
               positive = omega arith;
@@ -72,11 +75,11 @@ module _ (job : Job) (v : Valid sha256 job) where
               below = λ i h. f .drawn i (omega arith) .1;
             };
         low = rw er at low;
-        struck = λ j h. goes-out sha256 job (groupOf sha256 job) many j h .0;
-        above = λ j h. goes-out sha256 job (groupOf sha256 job) many j h .1 .low;
-        below = λ j h. goes-out sha256 job (groupOf sha256 job) many j h .1 .high;
-        left = λ j k h b. left sha256 job (groupOf sha256 job) many (f .ranked) j h k b;
-        place = λ j k h b. struck-below sha256 job (groupOf sha256 job) many (f .ranked) j h k b;
+        struck = λ j h. goes-out sha256 job (groupOf sha256 job) ranked many j h .0;
+        above = λ j h. goes-out sha256 job (groupOf sha256 job) ranked many j h .1 .low;
+        below = λ j h. goes-out sha256 job (groupOf sha256 job) ranked many j h .1 .high;
+        left = λ j k h b. left sha256 job (groupOf sha256 job) ranked many j h k b;
+        place = λ j k h b. struck-below sha256 job (groupOf sha256 job) ranked many j h k b;
       })
 
   -- the bytes that were written are the board
@@ -85,7 +88,7 @@ module _ (job : Job) (v : Valid sha256 job) where
 
   is-board : made ≡ board sha256 job
   unfolding board boardBytes
-  is-board = ap (λ (x : List ℕ). headerBytes sha256 job (groupOf sha256 job) ++ x) (sym (rounds-are sha256 job (groupOf sha256 job) many))
+  is-board = ap (λ (x : List ℕ). headerBytes sha256 job (groupOf sha256 job) ++ x) (sym (rounds-are sha256 job (groupOf sha256 job) ranked many))
 
   made-long : length (made) ≡ boardLength job
   unfolding boardLength
@@ -97,7 +100,7 @@ module _ (job : Job) (v : Valid sha256 job) where
 
   -- the order is read back from the array
   order-back : (order : List ℕ) (rounds : ℕ) → order ≡ padded (plainResult job .order) → rounds ≡ plainResult job .rounds → take (rounds - 1) order ≡ plainResult job .order
-  order-back order rounds eo er = rw (eo, er) (front-of (plainResult job .order) (plainResult job .rounds - 1) (order-long sha256 job (groupOf sha256 job) many))
+  order-back order rounds eo er = rw (eo, er) (front-of (plainResult job .order) (plainResult job .rounds - 1) (order-long sha256 job (groupOf sha256 job) ranked many))
 
   -- by the measure of the job, and a group that is its own
   module _ (m : Measure) (w : Measured (job .n) (job .K) (plainResult job) m) (g : Parameters) (e : g ≡ groupOf sha256 job) where

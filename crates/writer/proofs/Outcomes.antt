@@ -15,14 +15,13 @@ use Rattle.rules.specs.Group.{sizes, orders, generators}
 use Rattle.rules.specs.Count.{isRanking}
 use Rattle.rules.specs.Check.{firstFault}
 use Rattle.jobs.specs.Job.{Job, groupOf, rankingOf, needed, boardLength, plainResult}
-use Rattle.jobs.specs.Write.{labelGood, rankingsGood, drawsGood, jobFault, firstBad, which, jobRefused, writeOutcome, writeOutput}
+use Rattle.jobs.specs.Write.{labelGood, rankingsGood, drawsGood, jobFault, firstBad, which, jobRefused, writeOutcome, writeOutput, Passed, Valid}
 use Rattle.jobs.specs.Replies.{outcomeOf, orderWritten}
 use Rattle.jobs.specs.declared.Written.{Written}
-use Rattle.whole.specs.ThirdDemand.{Valid}
 use Rattle.parameters.proofs.Rules.{orders-positive, sizes-bounds}
 use Rattle.plain.specs.Measures.{Measured}
 use Rattle.plain.specs.declared.rounds.Measure.{Measure}
-use Rattle.writer.specs.Steps.{Stops, Passed}
+use Rattle.writer.specs.Steps.{Stops}
 
 -- the tests in the code's words
 module _ (job : Job) where
@@ -70,7 +69,7 @@ module _ (job : Job) where
   pub ranked : length (job .rankings) ≡ job .K * job .n → firstBad job (job .K) ≡ 0 → rankingsGood job ≡ true
   ranked l b = rw (eq-eqb (length (job .rankings)) (job .K * job .n) l) (all-ranked (job .K) b)
 
-  pub measurable : Passed job → (2 ≤ job .n) × (job .n ≤ 8) × (job .K ≤ 1000) × (job .K * job .n ≤ length (job .rankings))
+  pub measurable : Passed sha256 job → (2 ≤ job .n) × (job .n ≤ 8) × (job .K ≤ 1000) × (job .K * job .n ≤ length (job .rankings))
   measurable t =
       let b = sizes-bounds (job .n) (job .K) (t .sized) in
       let long : length (job .rankings) ≡ job .K * job .n = eqb-true _ _ (and-eq-true-iff (eqb (length (job .rankings)) (job .K * job .n)) _ .0 (t .ranked) .0) in
@@ -122,17 +121,14 @@ module _ (job : Job) (out : List ℕ) where
         stops-ranking h k e p =
             stops-rankings (rw (eq-eqb (length (job .rankings)) (job .K * job .n) h) (not-ranked job (job .K) (omega arith))) k (which-bad h ∙ sym e)
 
-  pub stops-draws : Passed job → drawsGood job ≡ false → Stops job out 14 0
+  pub stops-draws : Passed sha256 job → drawsGood job ≡ false → Stops job out 14 0
   unfolding jobFault firstFault
   stops-draws t e = stops 13 0 (rw (t .sized, t .ordered, t .labelled, t .ranked, e)) (which-none 14 (λ e. omega arith))
 
   pub stops-room : Valid sha256 job → (m : Measure) → Measured (job .n) (job .K) (plainResult job) m → length out < m .length → Stops job out 15 0
   unfolding jobFault firstFault boardLength
   stops-room v m w h =
-      stops 14 0 (rw (v .sized, v .ordered, v .labelled, v .ranked, v .drawn, lt-leb (boardLength job) (length out) (omega (arith, w .length)))) (which-none 15 (λ e. omega arith))
-
-pub valid : (job : Job) → Passed job → drawsGood job ≡ true → Valid sha256 job
-valid job t e = record { sized = t .sized; ordered = t .ordered; labelled = t .labelled; ranked = t .ranked; drawn = e }
+      stops 14 0 (rw (v .passed .sized, v .passed .ordered, v .passed .labelled, v .passed .ranked, v .drawn, lt-leb (boardLength job) (length out) (omega (arith, w .length)))) (which-none 15 (λ e. omega arith))
 
 -- what the contract says of a reply, and of the output before and after
 abbrev pub Answered : Job → (o o' : List ℕ) → Written → Type 0

@@ -8,10 +8,9 @@ use Rattle.numbers.specs.Below.{blocks}
 use Rattle.sha256.specs.Message.{sha256}
 use Rattle.group.specs.Elements.{Parameters, parametersOf}
 use Rattle.rules.specs.Answers.{refusalNumber}
-use Rattle.rules.specs.Group.{sizes, orders}
 use Rattle.jobs.specs.Job.{Job, groupOf}
 use Rattle.jobs.specs.Board.{headerBytes}
-use Rattle.jobs.specs.Write.{labelGood, rankingsGood, jobRefused, writeOutcome, writeOutput}
+use Rattle.jobs.specs.Write.{jobRefused, writeOutcome, writeOutput, Passed}
 use Rattle.output.specs.Written.{written}
 use Rattle.boards.specs.Parts.{boardJob, roundOf}
 use Rattle.boards.specs.declared.Size.{Size}
@@ -23,16 +22,9 @@ pub record Stops (job : Job) (out : List ℕ) (number which : ℕ) : Type 0 wher
   pub outcome : writeOutcome sha256 job (length out) ≡ jobRefused number which
   pub output : writeOutput sha256 job out ≡ out
 
--- none of 3, 4, 5 and 13 is due
-pub record Passed (job : Job) : Type 0 where
-  pub sized : sizes (job .n) (job .K) ≡ true
-  pub ordered : orders (job .n) (job .K) (job .p) (job .q) ≡ true
-  pub labelled : labelGood sha256 job ≡ true
-  pub ranked : rankingsGood job ≡ true
-
 -- what the tests up to the rankings tell: the job's group, or the refusal, whatever the output
 unfoldable pub Told : Job → Tested → Type 0
-Told job (Sound g) = Passed job × (parametersOf g ≡ groupOf sha256 job)
+Told job (Sound g) = Passed sha256 job × (parametersOf g ≡ groupOf sha256 job)
 Told job (Refused refusal k) = (out : List ℕ) → Stops job out (refusalNumber refusal) k
 
 -- the bytes of a board of so many rounds, in whose rounds processes go out in an order

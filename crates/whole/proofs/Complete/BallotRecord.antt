@@ -9,22 +9,23 @@ use lib.ListN.{length, getD, length-append}
 use borrow.Author.Tests.{le-leb, eq-eqb}
 use Rattle.numbers.specs.Below.{blocks}
 use Rattle.numbers.proofs.Tests.{and-true, all-true}
-use Rattle.rules.specs.Bytes.{half, bytes2}
+use Rattle.rules.specs.Bytes.{half, bytes2, Stands}
 use Rattle.group.specs.Elements.{Parameters}
 use Rattle.group.specs.Arithmetic.{powMod}
 use Rattle.rules.specs.Claims.{Matrix, matrixAt}
 use Rattle.rules.specs.Records.{recordLength, recordAt}
 use Rattle.rules.specs.Check.{firstFault, pairsGood, entryProof, rowProof, columnProof, ballotFields, ballotProofs, recordFault}
-use Rattle.jobs.specs.Job.{Job, groupOf, headerOf, plainResult}
-use Rattle.jobs.specs.Board.{jobMatrix, pairBytes, entryProver, rowProver, columnProver, ballotBytes}
-use Rattle.jobs.specs.Prover.{proofBytes}
-use Rattle.whole.proofs.Elements.{Good, root-mul, root-mod, root-element, root-g0, root-g1}
-use Rattle.whole.proofs.Complete.Honest.{proof-length, honest-fields, honest-holds}
-use Rattle.whole.proofs.Complete.FineJob.{Fine, good-group}
+use Rattle.jobs.specs.Job.{Job, groupOf, headerOf, plainResult, rowsOf, drawsAt}
+use Rattle.jobs.specs.Board.{jobMatrix, jobBallot}
+use Rattle.jobs.specs.Prover.{proofBytes, Prover}
+use Rattle.rules.proofs.Elements.{Good, root-mul, root-mod, root-element, root-g0, root-g1}
+use Rattle.whole.proofs.Complete.Honest.{honest-fields, honest-holds}
+use Rattle.jobs.proofs.FineJob.{Fine, good-group}
 use Rattle.whole.proofs.Complete.Written.{entry-honest, row-honest, column-honest}
-use Rattle.whole.proofs.Complete.Matrices.{SameMatrix, pairs-length, pairs-stand, pairs-good, entry-same, row-same, column-same}
-use Rattle.whole.proofs.Complete.Places.{Stands, stands-left, stands-right, stands-moved, stands-block, byte-stands, half-stands}
-use Rattle.numbers.proofs.Blocks.{length-blocks}
+use Rattle.jobs.proofs.Matrices.{SameMatrix, pairs-stand, pairs-good, entry-same, row-same, column-same}
+use Rattle.rules.proofs.Places.{stands-left, stands-right, stands-moved, stands-block, byte-stands, half-stands}
+use Rattle.jobs.specs.Records.{matrixOf, pairBytes, entryProver, rowProver, columnProver, ballotBytes, ballotProofBytes}
+use Rattle.jobs.proofs.Lengths.{length-pairs, length-proof, length-proofs, length-entries, length-rows, length-ballot}
 
 -- ---- a written matrix: small numbers, and elements
 module _ (hash : List ℕ → List ℕ) (job : Job) (f : Fine hash job) (gone : List ℕ) (m k : ℕ) where
@@ -33,14 +34,14 @@ module _ (hash : List ℕ → List ℕ) (job : Job) (f : Fine hash job) (gone : 
 
   pub written-matrix : (s : List ℕ) (at rows : ℕ) → Stands s (at + 4) (pairBytes (job .n) (jobMatrix job (groupOf hash job) gone m k) rows) →
       SameMatrix rows (job .n) (matrixAt s (job .n) at) (jobMatrix job (groupOf hash job) gone m k)
-  unfolding jobMatrix powMod
+  unfolding matrixOf powMod
   written-matrix s at rows h =
       let below : (x : ℕ) → x % job .p < 4294967296 = λ x. omega (arith, mod-lt x {m = job .p} (omega (arith, good .large)), good .small) in
       pairs-stand s at (job .n) rows _ (λ i j. below _) (λ i j. below _) h
 
   pub written-good : (s : List ℕ) (rows : ℕ) (M : Matrix) → SameMatrix rows (job .n) M (jobMatrix job (groupOf hash job) gone m k) →
       pairsGood s (headerOf hash job) rows M ≡ true
-  unfolding jobMatrix powMod
+  unfolding matrixOf powMod
   written-good s rows M e =
       pairs-good hash s (headerOf hash job) rows M _ e
       (λ i j. root-element (groupOf hash job) good _ (root-mul (groupOf hash job) good _ _ (root-mod (groupOf hash job) good _ (root-g0 (groupOf hash job) good _)) (root-mod (groupOf hash job) good _ (root-g1 (groupOf hash job) good _))))
@@ -51,82 +52,69 @@ module _ (hash : List ℕ → List ℕ) (job : Job) (k : ℕ) where
   abbrev g : Parameters
   g = groupOf hash job
 
-  entry-length : (i j : ℕ) → length (proofBytes g (entryProver job g k i j) hash (job .label)) ≡ 32
-  entry-length i j = proof-length hash (job .label) g _
+  abbrev entry : (i j : ℕ) → Prover
+  entry = entryProver g (job .n) (rowsOf job [] k) (job .draws) (drawsAt (job .n) (job .K) 0 k)
 
-  row-length : (i : ℕ) → length (proofBytes g (rowProver job g k i) hash (job .label)) ≡ 16
-  row-length i = proof-length hash (job .label) g _
+  abbrev row : (i : ℕ) → Prover
+  row = rowProver g (job .n) (rowsOf job [] k) (job .draws) (drawsAt (job .n) (job .K) 0 k)
 
-  column-length : (j : ℕ) → length (proofBytes g (columnProver job g k j) hash (job .label)) ≡ 16
-  column-length j = proof-length hash (job .label) g _
+  abbrev column : (j : ℕ) → Prover
+  column = columnProver g (job .n) (rowsOf job [] k) (job .draws) (drawsAt (job .n) (job .K) 0 k)
 
   abbrev thePairs : List ℕ
   thePairs = pairBytes (job .n) (jobMatrix job g [] 0 k) (job .n)
 
   abbrev theEntries : List ℕ
-  theEntries = blocks (job .n) (λ i. blocks (job .n) (λ j. proofBytes g (entryProver job g k i j) hash (job .label)))
+  theEntries = blocks (job .n) (λ i. blocks (job .n) (λ j. proofBytes g (entry i j) hash (job .label)))
 
   abbrev theRows : List ℕ
-  theRows = blocks (job .n) (λ i. proofBytes g (rowProver job g k i) hash (job .label))
+  theRows = blocks (job .n) (λ i. proofBytes g (row i) hash (job .label))
 
   abbrev theColumns : List ℕ
-  theColumns = blocks (job .n) (λ j. proofBytes g (columnProver job g k j) hash (job .label))
+  theColumns = blocks (job .n) (λ j. proofBytes g (column j) hash (job .label))
 
-  entry-row-length : (i : ℕ) → length (blocks (job .n) (λ j. proofBytes g (entryProver job g k i j) hash (job .label))) ≡ job .n * 32
-  entry-row-length i = length-blocks (job .n) 32 _ (λ j _. entry-length i j)
-
-  entries-length : length theEntries ≡ job .n * (job .n * 32)
-  entries-length = length-blocks (job .n) (job .n * 32) _ (λ i _. entry-row-length i)
-
-  rows-length : length theRows ≡ job .n * 16
-  rows-length = length-blocks (job .n) 16 _ (λ i _. row-length i)
-
-  columns-length : length theColumns ≡ job .n * 16
-  columns-length = length-blocks (job .n) 16 _ (λ i _. column-length i)
-
-  two-length : length (thePairs ++ theEntries) ≡ job .n * (job .n * 40)
-  two-length = omega (arith, length-append thePairs theEntries, pairs-length (job .n) (jobMatrix job g [] 0 k) (job .n), entries-length)
-
-  three-length : length (thePairs ++ theEntries ++ theRows) ≡ job .n * (job .n * 40) + job .n * 16
-  three-length = omega (arith, length-append (thePairs ++ theEntries) theRows, two-length, rows-length)
-
-  pub ballot-length : length (ballotBytes hash job g k) ≡ recordLength (job .n) 0
-  unfolding ballotBytes recordLength
-  ballot-length = omega (arith, length-append (thePairs ++ theEntries ++ theRows) theColumns, three-length, columns-length)
+  two-length : length (theEntries ++ theRows) ≡ job .n * (job .n * 32) + job .n * 16
+  two-length =
+      omega (
+        arith,
+        length-append theEntries theRows,
+        length-entries hash (job .label) g (job .n) (rowsOf job [] k) (job .draws) (drawsAt (job .n) (job .K) 0 k),
+        length-rows hash (job .label) g (job .n) (rowsOf job [] k) (job .draws) (drawsAt (job .n) (job .K) 0 k),
+      )
 
   -- ---- the record
   module _ (f : Fine hash job) (in-round : 0 < plainResult job .rounds) (in-ballots : k < job .K) (s : List ℕ)
-      (stands : Stands s (recordAt (job .n) (job .K) 0 k) (ballotBytes hash job g k)) where
+      (stands : Stands s (recordAt (job .n) (job .K) 0 k) (jobBallot hash job g k)) where
     abbrev at : ℕ
     at = recordAt (job .n) (job .K) 0 k
 
     abbrev M : Matrix
     M = jobMatrix job g [] 0 k
 
-    after-number : Stands s (at + 4) (thePairs ++ theEntries ++ theRows ++ theColumns)
-    unfolding ballotBytes
+    after-number : Stands s (at + 4) (thePairs ++ (theEntries ++ theRows ++ theColumns))
+    unfolding ballotBytes ballotProofBytes
     after-number = stands-right (66 ∷ 65 ∷ bytes2 (k + 1)) _ refl stands
 
-    three : Stands s (at + 4) (thePairs ++ theEntries ++ theRows)
-    three = stands-left (thePairs ++ theEntries ++ theRows) theColumns after-number
+    three : Stands s (at + 4 + 8 * (job .n * job .n)) (theEntries ++ theRows ++ theColumns)
+    three = stands-right thePairs (theEntries ++ theRows ++ theColumns) (length-pairs (job .n) M (job .n)) after-number
 
-    two : Stands s (at + 4) (thePairs ++ theEntries)
-    two = stands-left (thePairs ++ theEntries) theRows three
+    two : Stands s (at + 4 + 8 * (job .n * job .n)) (theEntries ++ theRows)
+    two = stands-left (theEntries ++ theRows) theColumns three
 
     pub ballot-matrix : SameMatrix (job .n) (job .n) (matrixAt s (job .n) at) M
-    ballot-matrix = written-matrix hash job f [] 0 k s at (job .n) (stands-left thePairs theEntries two)
+    ballot-matrix = written-matrix hash job f [] 0 k s at (job .n) (stands-left thePairs (theEntries ++ theRows ++ theColumns) after-number)
 
-    entry-stands : (i j : ℕ) → i < job .n → j < job .n → Stands s (entryProof s (headerOf hash job) k i j) (proofBytes g (entryProver job g k i j) hash (job .label))
+    entry-stands : (i j : ℕ) → i < job .n → j < job .n → Stands s (entryProof s (headerOf hash job) k i j) (proofBytes g (entry i j) hash (job .label))
     entry-stands i j a b =
         stands-moved (omega arith)
-        (stands-block (job .n) 32 _ (λ j _. entry-length i j)
-        (stands-block (job .n) (job .n * 32) _ (λ i _. entry-row-length i) (stands-right thePairs theEntries (pairs-length (job .n) M (job .n)) two) i a) j b)
+        (stands-block (job .n) 32 _ (λ j _. length-proof hash (job .label) g (entry i j))
+        (stands-block (job .n) (job .n * 32) _ (λ i _. length-proofs hash (job .label) g (job .n) 2 1 (entry i) (λ _. refl) (λ _. refl)) (stands-left theEntries theRows two) i a) j b)
 
-    row-stands : (i : ℕ) → i < job .n → Stands s (rowProof s (headerOf hash job) k i) (proofBytes g (rowProver job g k i) hash (job .label))
-    row-stands i a = stands-moved (omega arith) (stands-block (job .n) 16 _ (λ i _. row-length i) (stands-right (thePairs ++ theEntries) theRows two-length three) i a)
+    row-stands : (i : ℕ) → i < job .n → Stands s (rowProof s (headerOf hash job) k i) (proofBytes g (row i) hash (job .label))
+    row-stands i a = stands-moved (omega arith) (stands-block (job .n) 16 _ (λ i _. length-proof hash (job .label) g (row i)) (stands-right theEntries theRows (length-entries hash (job .label) g (job .n) (rowsOf job [] k) (job .draws) (drawsAt (job .n) (job .K) 0 k)) two) i a)
 
-    column-stands : (j : ℕ) → j < job .n → Stands s (columnProof s (headerOf hash job) k j) (proofBytes g (columnProver job g k j) hash (job .label))
-    column-stands j a = stands-moved (omega arith) (stands-block (job .n) 16 _ (λ i _. column-length i) (stands-right (thePairs ++ theEntries ++ theRows) theColumns three-length after-number) j a)
+    column-stands : (j : ℕ) → j < job .n → Stands s (columnProof s (headerOf hash job) k j) (proofBytes g (column j) hash (job .label))
+    column-stands j a = stands-moved (omega arith) (stands-block (job .n) 16 _ (λ i _. length-proof hash (job .label) g (column i)) (stands-right (theEntries ++ theRows) theColumns two-length three) j a)
 
     fields : ballotFields s (headerOf hash job) k ≡ true
     unfolding ballotFields
@@ -155,9 +143,9 @@ module _ (hash : List ℕ → List ℕ) (job : Job) (k : ℕ) where
         (λ _ _ _ _. column-same g (job .n) _ _ j ballot-matrix b)))
 
     pub ballot-fault : (a : ℕ) → recordFault hash s (headerOf hash job) a 0 k ≡ 0
-    unfolding recordFault firstFault ballotBytes
+    unfolding recordFault firstFault ballotBytes recordLength
     ballot-fault a =
-        let long : at + recordLength (job .n) 0 ≤ length s = omega (arith, stands .fits, ballot-length) in
+        let long : at + recordLength (job .n) 0 ≤ length s = omega (arith, stands .fits, length-ballot hash (job .label) g (job .n) (rowsOf job [] k) (job .draws) (drawsAt (job .n) (job .K) 0 k) (k + 1)) in
         let first : getD s at 0 ≡ 66 = byte-stands stands in
         let second : getD s (at + 1) 0 ≡ 65 = stands .same 1 (omega arith) in
         let number : half s (at + 2) ≡ k + 1 = half-stands (omega (arith, f .K-high)) (stands-left (bytes2 (k + 1)) _ (stands-right (66 ∷ 65 ∷ []) _ refl stands)) in

@@ -11,7 +11,7 @@ use Rattle.rules.specs.Group.{paired}
 use Rattle.group.specs.Arithmetic.{powMod, over}
 use Rattle.numbers.proofs.Residues.{mul-mod-left, mul-mod-right}
 use Rattle.numbers.proofs.RootsOfUnity.{inverse-rest}
-use Rattle.whole.proofs.Elements.{Good, power-root, pair-root, paired-is, paired-mod}
+use Rattle.rules.proofs.Elements.{Good, power-root, pair-root, paired-is, paired-mod}
 
 -- ---- pairs
 module _ (g : Parameters) (good : Good g) where

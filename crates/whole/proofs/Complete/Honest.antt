@@ -6,21 +6,21 @@ use mathlib.Core.Path.{_≡_, refl, sym, _∙_}
 use mathlib.Core.Bool.{true, false, cond}
 use mathlib.Core.List.{List, _++_}
 use lib.Dec.{ltb, eqb}
-use lib.ListN.{length}
 use borrow.Author.Tests.{ltb-true, ltb-false, eqb-true, eqb-false, lt-ltb, eq-eqb}
 use Rattle.numbers.specs.Below.{sumBelow, blocks}
-use Rattle.rules.specs.Bytes.{word, part, bytes4}
+use Rattle.rules.specs.Bytes.{word, part, bytes4, Stands}
 use Rattle.group.specs.Elements.{Parameters, isElement}
 use Rattle.group.specs.Arithmetic.{powMod}
 use Rattle.numbers.proofs.Residues.{mul-mod-right}
 use Rattle.rules.specs.Proofs.{Statement, statementHolds, branchAt, statementAt, proofFields, commitments, proofHolds}
-use Rattle.jobs.specs.Prover.{Prover, branchDraws, commitment, committed, wholeChallenge, trueChallenge, challengeOf, responseOf, proofBytes}
+use Rattle.jobs.specs.Prover.{Prover, commitment, committed, wholeChallenge, trueChallenge, challengeOf, responseOf, proofBytes, drawsOf, branchBytes}
 use Rattle.numbers.proofs.Tests.{by-cases, and-true, all-true}
-use Rattle.numbers.proofs.Blocks.{blocks-same, length-blocks}
+use Rattle.numbers.proofs.Blocks.{blocks-same}
 use Rattle.numbers.proofs.Sums.{sum-one-out, sum-same, sum-add, sum-multiples}
-use Rattle.whole.proofs.Elements.{Good, root-mul, root-pow, root-mod, root-element}
+use Rattle.rules.proofs.Elements.{Good, root-mul, root-pow, root-mod, root-element}
 use Rattle.numbers.proofs.Completeness.{false-equation, true-equation}
-use Rattle.whole.proofs.Complete.Places.{Stands, stands-left, stands-right, stands-moved, stands-block, word-stands, part-stands}
+use Rattle.rules.proofs.Places.{stands-left, stands-right, stands-moved, stands-block, word-stands, part-stands}
+use Rattle.jobs.proofs.Lengths.{length-branch}
 
 -- what makes a proof honest: sides that are elements, a true branch whose witness is known, draws below q
 pub record Honest (g : Parameters) (pr : Prover) : Type 0 where
@@ -53,12 +53,9 @@ module _ (hash : List ℕ → List ℕ) (label : List ℕ) (g : Parameters) (pr 
   abbrev bytes : List ℕ
   bytes = proofBytes g pr hash label
 
-  abbrev drawsOf : ℕ → ℕ
-  drawsOf l = branchDraws pr l
-
   module _ (h : Honest g pr) where
     -- what a false branch draws
-    false-draw : (l d : ℕ) → l < branches → d < 1 + statements → eqb l known ≡ false → draw (drawsOf l + d) < g .q
+    false-draw : (l d : ℕ) → l < branches → d < 1 + statements → eqb l known ≡ false → draw (drawsOf pr l + d) < g .q
     false-draw l d a b ne =
         by-cases (ltb known l)
         (λ c.
@@ -85,7 +82,7 @@ module _ (hash : List ℕ → List ℕ) (label : List ℕ) (g : Parameters) (pr 
     response-below l i a b =
         by-cases (eqb l known)
         (λ c. rw c (mod-lt _ (h .good .some-q)))
-        (λ c. rw c (rw (← (add-assoc (drawsOf l) 1 i)) at (false-draw l (1 + i) a (omega arith) c)))
+        (λ c. rw c (rw (← (add-assoc (drawsOf pr l) 1 i)) at (false-draw l (1 + i) a (omega arith) c)))
 
     module _ (base side l i : ℕ) (a : l < branches) (b : i < statements)
         (root-base : base ^ g .q % g .p ≡ 1) (root-side : side ^ g .q % g .p ≡ 1) where
@@ -107,37 +104,30 @@ module _ (hash : List ℕ → List ℕ) (label : List ℕ) (g : Parameters) (pr 
           by-cases (eqb l known)
           (λ c. rw c (true-equation (g .p) (g .q) base side _ _ _ root-base (k (eqb-true l known c))))
           (λ c.
-          let e : draw (drawsOf l) < g .q = rw add-zero at (false-draw l 0 a (omega arith) c) in
+          let e : draw (drawsOf pr l) < g .q = rw add-zero at (false-draw l 0 a (omega arith) c) in
           rw c (false-equation (g .p) (g .q) base side _ _ (omega arith) root-side))
 
     -- the challenges add up
     challenges : sumBelow branches challenge % g .q ≡ whole % g .q
     unfolding trueChallenge
     challenges =
-        let F : ℕ → ℕ = λ l. draw (drawsOf l) in
+        let F : ℕ → ℕ = λ l. draw (drawsOf pr l) in
         let S : ℕ = sumBelow branches (λ l. cond (eqb l known) 0 (g .q - F l)) in
         let S' : ℕ = sumBelow branches (λ l. cond (eqb l known) 0 (F l)) in
         let z : sumBelow branches (λ l. cond (eqb l known) 0 (g .q - F l) + cond (eqb l known) 0 (F l)) % g .q ≡ 0 =
         sum-multiples (g .q) branches _ (λ l a. by-cases (eqb l known)
         (λ c. rw c (zero-mod (g .q)))
-        (λ c. let e : draw (drawsOf l) < g .q = rw add-zero at (false-draw l 0 a (omega arith) c) in
+        (λ c. let e : draw (drawsOf pr l) < g .q = rw add-zero at (false-draw l 0 a (omega arith) c) in
         rw c (rw (sub-add-cancel {n = g .q} {m = F l} (omega arith)) (mod-self (g .q))))) in
         let z' : (S + S') % g .q ≡ 0 = rw (sum-add branches (λ l. cond (eqb l known) 0 (g .q - F l)) (λ l. cond (eqb l known) 0 (F l))) at z in
         rw (sum-one-out branches known ((whole + S) % g .q) F (h .inside), mod-add-mod (whole + S) (g .q) S', add-assoc whole S S')
         (sym (add-mod-mod whole (S + S') (g .q)) ∙ rw (z', add-zero))
 
   -- ---- what is read where such a proof stands
-  branch-length : (l : ℕ) → length (bytes4 (challenge l) ++ blocks statements (λ i. both l i ++ bytes4 (response l i))) ≡ 4 + 12 * statements
-  branch-length l = omega (arith, length-blocks statements 12 (λ i. both l i ++ bytes4 (response l i)) (λ i _. refl))
-
-  pub proof-length : length bytes ≡ branches * (4 + 12 * statements)
-  unfolding proofBytes
-  proof-length = length-blocks branches (4 + 12 * statements) _ (λ l _. branch-length l)
-
   module _ (h : Honest g pr) (s : List ℕ) (at : ℕ) (stands : Stands s at bytes) where
     branch-stands : (l : ℕ) → l < branches → Stands s (branchAt at statements l) (bytes4 (challenge l) ++ blocks statements (λ i. both l i ++ bytes4 (response l i)))
-    unfolding proofBytes
-    branch-stands l a = stands-block branches (4 + 12 * statements) _ (λ l _. branch-length l) stands l a
+    unfolding proofBytes branchBytes
+    branch-stands l a = stands-block branches (4 + 12 * statements) _ (λ l _. length-branch (challenge l) statements (both l) (response l) (λ _ _. refl)) stands l a
 
     read-challenge : (l : ℕ) → l < branches → word s (branchAt at statements l) ≡ challenge l
     read-challenge l a = word-stands (omega (arith, challenge-below h l a, h .good)) (stands-left (bytes4 (challenge l)) _ (branch-stands l a))

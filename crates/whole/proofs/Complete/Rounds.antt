@@ -1,43 +1,40 @@
 -- The checker goes through the rounds that a job writes in step with the plain count.
 use Prim.Native.Nat.{ℕ, zero, suc, _+_, _*_, _-_, _≤_, _<_}
-use native.Mathlib.Nat.{le-of-eq, eq-or-lt-of-le, not-suc-le-zero, sub-zero}
+use native.Mathlib.Nat.{le-of-eq, eq-or-lt-of-le, sub-zero}
 use native.Mathlib.Omega.{arith}
-use mathlib.Core.Path.{_≡_, refl, sym, subst, subst⁻¹, _∙_, ap}
+use mathlib.Core.Path.{_≡_, refl, subst, subst⁻¹, _∙_, ap}
 use mathlib.Core.Bool.{Bool, true, false, cond}
 use mathlib.Core.List.{List, [], _∷_, _++_}
 use mathlib.Core.Logic.{⊎-elim}
 use lib.Dec.{eqb}
 use lib.ListN.{length, getD, length-append}
-use borrow.Author.Tests.{eq-eqb, eqb-false}
+use borrow.Author.Tests.{eq-eqb}
 use Rattle.numbers.specs.Below.{blocks}
 use Rattle.group.specs.Elements.{Parameters}
 use Rattle.rules.specs.Claims.{matrixAt}
 use Rattle.rules.specs.Records.{recordLength, sheetLength, roundAt, recordAt}
-use Rattle.rules.specs.Count.{table, isRanking, Standing, leaves, closes, next, ended, countsOf, countFrom}
+use Rattle.rules.specs.Count.{Standing, next}
 use Rattle.rules.specs.Check.{Verdict, accepted, Header, header, recordFault, outField, counts, sheetFault, ending, roundVerdict, checkFrom, matrix}
-use Rattle.jobs.specs.Job.{Job, groupOf, headerOf, rankingOf, secret, standing, plainResult}
-use Rattle.jobs.specs.Board.{jobMatrix, recordBytes, sheetBytes, roundsFrom}
+use Rattle.jobs.specs.Job.{Job, groupOf, headerOf, rankingOf, standing, plainResult, recordDraws, roundDraws}
+use Rattle.jobs.specs.Board.{jobMatrix, recordBytes, roundsFrom, jobSheet}
 use Rattle.rules.specs.Openings.{OpensTo, listAt}
 use Rattle.whole.proofs.Verdicts.{round-read}
-use Rattle.whole.proofs.Complete.FineJob.{Fine}
-use Rattle.whole.proofs.Complete.Written.{secret-at}
-use Rattle.numbers.proofs.Tests.{by-cases, or-false-left}
-use Rattle.rules.proofs.Lists.{length-table}
-use Rattle.whole.proofs.Lists.{strike}
-use Rattle.whole.proofs.Orders.{orders-of-test}
-use Rattle.whole.proofs.Rankings.{times, times-standing, length-struck, once}
-use Rattle.rules.proofs.Leaving.{In, leaves-in, rounds-over}
-use Rattle.whole.proofs.Complete.Matrices.{SameMatrix}
-use Rattle.whole.proofs.Complete.BallotRecord.{ballot-length, ballot-matrix, ballot-fault}
-use Rattle.whole.proofs.Complete.ShiftRecord.{shift-length, shift-matrix, shift-fault}
-use Rattle.whole.proofs.Complete.SheetRecord.{sheet-length, read-out, read-counts, sheet-fault}
-use Rattle.whole.proofs.Complete.Places.{Stands, stands-left, stands-right, stands-block}
+use Rattle.jobs.proofs.FineJob.{Fine}
+use Rattle.whole.proofs.Complete.Written.{secret-at, secret}
+use Rattle.numbers.proofs.Tests.{by-cases}
+use Rattle.jobs.proofs.Lists.{strike}
+use Rattle.rules.proofs.Orders.{orders-of-test}
+use Rattle.rules.proofs.Leaving.{In}
+use Rattle.jobs.proofs.Matrices.{SameMatrix}
+use Rattle.whole.proofs.Complete.BallotRecord.{ballot-matrix, ballot-fault}
+use Rattle.whole.proofs.Complete.ShiftRecord.{shift-matrix, shift-fault}
+use Rattle.whole.proofs.Complete.SheetRecord.{read-out, read-counts, sheet-fault}
+use Rattle.rules.specs.Bytes.{Stands}
+use Rattle.rules.proofs.Places.{stands-left, stands-right, stands-block}
 use Rattle.numbers.proofs.Blocks.{length-blocks}
-
--- a process still in stands once on what is left of a ranking
-in-once : (n : ℕ) (gone r : List ℕ) (c : ℕ) → isRanking n r ≡ true → In gone n c → times c (standing gone r) ≡ 1
-in-once n gone r zero ranking o = absurd (not-suc-le-zero (o .low))
-in-once n gone r (suc c) ranking o = times-standing (suc c) gone r (o .still) ∙ once n r ranking c (o .high)
+use Rattle.jobs.specs.Records.{matrixOf}
+use Rattle.jobs.proofs.Counting.{in-once, Reached, countsIn, closesIn, leavesIn, in-rounds, leaves-still-in, plain-closed, next-reached}
+use Rattle.jobs.proofs.Lengths.{length-sheet, length-record}
 
 module _ (hash : List ℕ → List ℕ) (job : Job) where
   abbrev g : Parameters
@@ -46,19 +43,8 @@ module _ (hash : List ℕ → List ℕ) (job : Job) where
   abbrev h : Header
   h = headerOf hash job
 
-  abbrev rankings : List (List ℕ)
-  rankings = table (job .K) (rankingOf job)
-
-  abbrev theCounts : List ℕ → List ℕ
-  theCounts gone = countsOf (job .n) rankings gone
-
-  record-length : (before : List ℕ) (a m k : ℕ) → length (recordBytes hash job g before a m k) ≡ recordLength (job .n) m
-  unfolding recordBytes
-  record-length before a zero k = ballot-length hash job k
-  record-length before a (suc m) k = shift-length hash job before a m k
-
   records-length : (before : List ℕ) (a m : ℕ) → length (blocks (job .K) (recordBytes hash job g before a m)) ≡ job .K * recordLength (job .n) m
-  records-length before a m = length-blocks (job .K) (recordLength (job .n) m) _ (λ k _. record-length before a m k)
+  records-length before a m = length-blocks (job .K) (recordLength (job .n) m) _ (λ k _. length-record hash job g before a m k)
 
   module _ (s : List ℕ) where
     -- the matrices of round m are read as they were written
@@ -81,16 +67,11 @@ module _ (hash : List ℕ → List ℕ) (job : Job) where
 
     -- the board from round m on is what the writer wrote there
     pub record Reach (fuel : ℕ) (st : Standing) (m : ℕ) (before : List ℕ) (a : ℕ) : Type 0 where
-      pub fuelled : fuel + m ≡ job .n
-      pub early : m + 2 ≤ job .n
-      pub sheeted : length (st .sheets) ≡ m
-      pub out : length (st .gone) ≡ m
-      pub short : Short (st .gone) m
+      pub count : Reached job fuel st m
       pub listed : (k : ℕ) → listAt s (rankingOf job) m k ≡ standing (st .gone) (rankingOf job k)
       pub prior : Prior (st .gone) before a m
       pub rest : Stands s (roundAt (job .n) (job .K) m) (roundsFrom hash job g fuel st m before a)
       pub whole : length s ≡ roundAt (job .n) (job .K) m + length (roundsFrom hash job g fuel st m before a)
-      pub plain : countFrom (job .n) rankings fuel st ≡ plainResult job
 
     module _ (f : Fine hash job) (heads : header s ≡ h) where
       -- the records of a round
@@ -101,10 +82,10 @@ module _ (hash : List ℕ → List ℕ) (job : Job) where
           × SameMatrix (job .n - m) (job .n) (matrixAt s (job .n) (recordAt (job .n) (job .K) m k)) (jobMatrix job g gone m k)
       unfolding recordBytes recordAt
       records gone before a zero prior in-round early stands k l =
-          let here = stands-block (job .K) (recordLength (job .n) 0) _ (λ k _. record-length before a 0 k) stands k l in
+          let here = stands-block (job .K) (recordLength (job .n) 0) _ (λ k _. length-record hash job g before a 0 k) stands k l in
           (ballot-fault hash job k f in-round l s here a, rw (prior, sub-zero) (ballot-matrix hash job k f in-round l s here))
       records gone before a (suc m) prior in-round early stands k l =
-          let here = stands-block (job .K) (recordLength (job .n) (suc m)) _ (λ k _. record-length before a (suc m) k) stands k l in
+          let here = stands-block (job .K) (recordLength (job .n) (suc m)) _ (λ k _. length-record hash job g before a (suc m) k) stands k l in
           let o = in-once (job .n) before (rankingOf job k) a (f .ranked k l) (prior .was-in) in
           let low = prior .was-in .low in
           let high = prior .was-in .high in (
@@ -119,44 +100,44 @@ module _ (hash : List ℕ → List ℕ) (job : Job) where
       -- one round
       module _ (fuel : ℕ) (st : Standing) (m : ℕ) (before : List ℕ) (a : ℕ) (r : Reach (suc fuel) st m before a) where
         abbrev C : List ℕ
-        C = theCounts (st .gone)
+        C = countsIn job st
 
         abbrev closing : Bool
-        closing = closes (job .n) st C (job .K)
+        closing = closesIn job st
 
         abbrev leaving : ℕ
-        leaving = leaves (job .n) st C
+        leaving = leavesIn job st
 
         abbrev after : List ℕ
         after = roundsFrom hash job g fuel (next (job .n) st C) (suc m) (st .gone) leaving
 
         abbrev tail : List ℕ
-        tail = cond closing (sheetBytes job g m 0 C) (sheetBytes job g m leaving C ++ after)
+        tail = cond closing (jobSheet job g m 0 C) (jobSheet job g m leaving C ++ after)
 
         in-round : m < plainResult job .rounds
-        in-round = rw (r .plain, r .sheeted) at (rounds-over (job .n) rankings (suc fuel) st)
+        in-round = in-rounds job (f .ranked) (r .count)
 
         split : Stands s (roundAt (job .n) (job .K) m) (blocks (job .K) (recordBytes hash job g before a m) ++ tail)
         unfolding roundsFrom
         split = r .rest
 
-        sheet-stands : Stands s (recordAt (job .n) (job .K) m (job .K)) (sheetBytes job g m (cond closing 0 leaving) C)
+        sheet-stands : Stands s (recordAt (job .n) (job .K) m (job .K)) (jobSheet job g m (cond closing 0 leaving) C)
         unfolding recordAt
         sheet-stands =
             let t : Stands s (recordAt (job .n) (job .K) m (job .K)) tail = stands-right (blocks (job .K) (recordBytes hash job g before a m)) tail (records-length before a m) split in
-            by-cases closing (λ e. rw e (rw e at t)) (λ e. rw e (stands-left (sheetBytes job g m leaving C) after (rw e at t)))
+            by-cases closing (λ e. rw e (rw e at t)) (λ e. rw e (stands-left (jobSheet job g m leaving C) after (rw e at t)))
 
         round-records : (k : ℕ) → k < job .K →
             (recordFault hash s h a m k ≡ 0)
             × SameMatrix (job .n - m) (job .n) (matrixAt s (job .n) (recordAt (job .n) (job .K) m k)) (jobMatrix job g (st .gone) m k)
-        round-records = records (st .gone) before a m (r .prior) in-round (r .early) (stands-left (blocks (job .K) (recordBytes hash job g before a m)) tail split)
+        round-records = records (st .gone) before a m (r .prior) in-round (r .count .early) (stands-left (blocks (job .K) (recordBytes hash job g before a m)) tail split)
 
         round-counts : counts s h m ≡ C
         round-counts = read-counts hash job (st .gone) m f s (cond closing 0 leaving) sheet-stands
 
         sheet-good : sheetFault s h m (cond closing 0 leaving) ≡ 0
         sheet-good =
-            sheet-fault hash job (st .gone) m f s (cond closing 0 leaving) sheet-stands (job .n - m) (omega (arith, r .early)) (λ k l. round-records k l .1)
+            sheet-fault hash job (st .gone) m f s (cond closing 0 leaving) sheet-stands (job .n - m) (omega (arith, r .count .early)) (λ k l. round-records k l .1)
             (cond closing 0 leaving) refl
 
         round-is : (later : Verdict) → roundVerdict hash s h st m a later ≡ cond closing (ending s h st m) later
@@ -164,11 +145,11 @@ module _ (hash : List ℕ → List ℕ) (job : Job) where
 
         -- its matrices open
         round-opens : (k : ℕ) → k < job .K → OpensTo g (job .n - m) (job .n) (matrix s h m k) (listAt s (rankingOf job) m k)
-        unfolding jobMatrix
+        unfolding matrixOf
         round-opens k a =
             let same = round-records k a .1 in
             record {
-              a-row-each = ap length (r .listed k) ∙ r .short k a;
+              a-row-each = ap length (r .listed k) ∙ r .count .short k a;
               pairs = λ i j b c. rw (r .listed k) (
                 secret job m k i j,
                 record {
@@ -180,26 +161,21 @@ module _ (hash : List ℕ → List ℕ) (job : Job) where
               );
             }
 
+        sheet-long : (out : ℕ) → length (jobSheet job g m out C) ≡ sheetLength (job .n)
+        sheet-long out = length-sheet (job .q) (job .n) (job .K) (job .draws) (roundDraws (job .n) (job .K) m) (recordDraws (job .n) m) m out C
+
         tail-whole : length s ≡ recordAt (job .n) (job .K) m (job .K) + length tail
         unfolding roundsFrom recordAt
         tail-whole =
             let e : length s ≡ roundAt (job .n) (job .K) m + length (blocks (job .K) (recordBytes hash job g before a m) ++ tail) = r .whole in
             omega (arith, length-append (blocks (job .K) (recordBytes hash job g before a m)) tail, records-length before a m)
 
-        plain-closed : closing ≡ true → plainResult job ≡ ended (job .n) st C
-        unfolding countFrom
-        plain-closed e = sym (r .plain) ∙ rw (length-table (job .K) (rankingOf job), e)
-
-        plain-opened : closing ≡ false → countFrom (job .n) rankings fuel (next (job .n) st C) ≡ plainResult job
-        unfolding countFrom
-        plain-opened e = rw (length-table (job .K) (rankingOf job), e) at (r .plain)
-
         -- the round that closes the board
         closed : closing ≡ true → checkFrom hash s h (suc fuel) st m a ≡ accepted (plainResult job .rounds) (plainResult job .order) (plainResult job .winner)
         unfolding checkFrom
         closed e =
-            let t : length tail ≡ sheetLength (job .n) = rw e (sheet-length hash job (st .gone) m 0) in
-            round-is _ ∙ rw e (rw (eq-eqb (length s) (recordAt (job .n) (job .K) m (job .K) + sheetLength (job .n)) (omega (arith, tail-whole)), round-counts, plain-closed e, r .sheeted))
+            let t : length tail ≡ sheetLength (job .n) = rw e (sheet-long 0) in
+            round-is _ ∙ rw e (rw (eq-eqb (length s) (recordAt (job .n) (job .K) m (job .K) + sheetLength (job .n)) (omega (arith, tail-whole)), round-counts, plain-closed job (f .ranked) (r .count) e, r .count .sheeted))
 
         next-listed : closing ≡ false → (k : ℕ) → listAt s (rankingOf job) (suc m) k ≡ standing (st .gone ++ (leaving ∷ [])) (rankingOf job k)
         unfolding listAt
@@ -214,25 +190,16 @@ module _ (hash : List ℕ → List ℕ) (job : Job) where
         going e = round-is _ ∙ rw e (rw round-counts)
 
         opened : closing ≡ false → Reach fuel (next (job .n) st C) (suc m) (st .gone) leaving
-        unfolding roundAt recordAt closes
+        unfolding roundAt recordAt
         opened e =
-            let goes : In (st .gone) (job .n) leaving = leaves-in (job .n) st C (omega (arith, r .out, r .early)) in
             let t : Stands s (recordAt (job .n) (job .K) m (job .K)) tail = stands-right (blocks (job .K) (recordBytes hash job g before a m)) tail (records-length before a m) split in
-            let w : length s ≡ recordAt (job .n) (job .K) m (job .K) + length (sheetBytes job g m leaving C ++ after) = rw e at tail-whole in
-            let late : eqb (length (st .sheets) + 1) (job .n - 1) ≡ false = or-false-left _ _ e in
+            let w : length s ≡ recordAt (job .n) (job .K) m (job .K) + length (jobSheet job g m leaving C ++ after) = rw e at tail-whole in
             record {
-              fuelled = omega (arith, r .fuelled);
-              early = omega (arith, r .early, r .sheeted, eqb-false (length (st .sheets) + 1) (job .n - 1) late);
-              sheeted = omega (arith, length-append (st .sheets) (C ∷ []), r .sheeted);
-              out = omega (arith, length-append (st .gone) (leaving ∷ []), r .out);
-              short = λ k l.
-                  rw (← (strike leaving (st .gone) (rankingOf job k)))
-                  (omega (arith, length-struck leaving (standing (st .gone) (rankingOf job k)), in-once (job .n) (st .gone) (rankingOf job k) leaving (f .ranked k l) goes, r .short k l, r .early));
+              count = next-reached job (f .ranked) (r .count) e;
               listed = next-listed e;
-              prior = record { struck = refl; was-in = goes; short = r .short; read = λ k l. round-records k l .1 };
-              rest = stands-right (sheetBytes job g m leaving C) after (sheet-length hash job (st .gone) m leaving) (rw e at t);
-              whole = omega (arith, length-append (sheetBytes job g m leaving C) after, sheet-length hash job (st .gone) m leaving);
-              plain = plain-opened e;
+              prior = record { struck = refl; was-in = leaves-still-in job (f .ranked) (r .count); short = r .count .short; read = λ k l. round-records k l .1 };
+              rest = stands-right (jobSheet job g m leaving C) after (sheet-long leaving) (rw e at t);
+              whole = omega (arith, length-append (jobSheet job g m leaving C) after, sheet-long leaving);
             }
 
       -- all rounds, from round m on
@@ -240,14 +207,14 @@ module _ (hash : List ℕ → List ℕ) (job : Job) where
           (checkFrom hash s h fuel st m a ≡ accepted (plainResult job .rounds) (plainResult job .order) (plainResult job .winner))
           × ((m' k : ℕ) → m ≤ m' → m' < plainResult job .rounds → k < job .K →
           OpensTo g (job .n - m') (job .n) (matrix s h m' k) (listAt s (rankingOf job) m' k))
-      rounds zero st m before a r = absurd (omega (arith, r .fuelled, r .early))
+      rounds zero st m before a r = absurd (omega (arith, r .count .fuelled, r .count .early))
       rounds (suc fuel) st m before a r =
           by-cases (closing fuel st m before a r)
           (λ e. (
             closed fuel st m before a r e,
             λ m' k l b c.
-                let one : plainResult job .rounds ≡ length (st .sheets) + 1 = rw (plain-closed fuel st m before a r e) in
-                let same : m ≡ m' = omega (arith, r .sheeted) in
+                let one : plainResult job .rounds ≡ length (st .sheets) + 1 = rw (plain-closed job (f .ranked) (r .count) e) in
+                let same : m ≡ m' = omega (arith, r .count .sheeted) in
                 subst (λ m. OpensTo g (job .n - m) (job .n) (matrix s h m k) (listAt s (rankingOf job) m k)) same (round-opens fuel st m before a r k c),
           ))
           (λ e.

@@ -13,7 +13,7 @@ use Rattle.numbers.specs.Below.{sumBelow, blocks}
 use Rattle.numbers.proofs.Tests.{and-true, all-true, by-cases}
 use Rattle.numbers.proofs.Products.{prod-same}
 use Rattle.numbers.proofs.Sums.{sum-under, sum-same}
-use Rattle.rules.specs.Bytes.{bytes2, bytes4}
+use Rattle.rules.specs.Bytes.{bytes2, bytes4, Stands}
 use Rattle.group.specs.Elements.{Parameters}
 use Rattle.rules.specs.Group.{paired}
 use Rattle.group.specs.Arithmetic.{powMod}
@@ -21,18 +21,20 @@ use Rattle.rules.specs.Claims.{matrixAt}
 use Rattle.rules.specs.Records.{sheetLength, recordAt}
 use Rattle.rules.specs.Count.{votesFor, countsOf, table}
 use Rattle.rules.specs.Check.{Test, firstFault, outField, countField, sField, counts, sheetFields, tallies, sheetFault}
-use Rattle.jobs.specs.Job.{Job, groupOf, headerOf, rankingOf, secret, openedTo, standing}
-use Rattle.jobs.specs.Board.{jobMatrix, sheetBytes}
+use Rattle.jobs.specs.Job.{Job, groupOf, headerOf, rankingOf, standing, rowsOf, recordDraws, roundDraws}
+use Rattle.jobs.specs.Board.{jobMatrix, jobSheet}
 use Rattle.numbers.proofs.Residues.{mul-mod}
 use Rattle.numbers.proofs.RootsOfUnity.{pow-order}
-use Rattle.whole.proofs.Elements.{Good}
-use Rattle.whole.proofs.Complete.FineJob.{Fine, good-group}
+use Rattle.rules.proofs.Elements.{Good}
+use Rattle.jobs.proofs.FineJob.{Fine, good-group}
 use Rattle.rules.proofs.Lists.{table-at, table-same, votes-table}
-use Rattle.whole.proofs.Lists.{first-standing, ranked-processes}
+use Rattle.jobs.proofs.Lists.{first-standing, ranked-processes}
 use Rattle.whole.proofs.Complete.Claims.{prod-powers, prod-pairs}
-use Rattle.whole.proofs.Complete.Matrices.{SameMatrix}
-use Rattle.whole.proofs.Complete.Places.{Stands, stands-left, stands-right, stands-moved, stands-block, byte-stands, half-stands, word-stands}
-use Rattle.numbers.proofs.Blocks.{length-blocks}
+use Rattle.jobs.proofs.Matrices.{SameMatrix}
+use Rattle.rules.proofs.Places.{stands-left, stands-right, stands-moved, stands-block, byte-stands, half-stands, word-stands}
+use Rattle.jobs.specs.Records.{opened, matrixOf, sheetBytes}
+use Rattle.jobs.proofs.Lengths.{length-sheet}
+use Rattle.whole.proofs.Complete.Written.{secret}
 
 module _ (hash : List ℕ → List ℕ) (job : Job) (gone : List ℕ) (m : ℕ) where
   abbrev g : Parameters
@@ -50,16 +52,12 @@ module _ (hash : List ℕ → List ℕ) (job : Job) (gone : List ℕ) (m : ℕ) 
   abbrev field : ℕ → List ℕ
   field i = bytes2 (getD theCounts i 0) ++ bytes4 (secrets i % job .q)
 
-  pub sheet-length : (out : ℕ) → length (sheetBytes job g m out theCounts) ≡ sheetLength (job .n)
-  unfolding sheetBytes sheetLength
-  sheet-length out = omega (arith, length-blocks (job .n) 6 field (λ _ _. refl))
-
   pub count-at : (i : ℕ) → i < job .n → getD theCounts i 0 ≡ votes i
   unfolding countsOf
   count-at i l = table-at (job .n) votes 0 i l
 
   module _ (f : Fine hash job) (s : List ℕ) (out : ℕ)
-      (stands : Stands s (recordAt (job .n) (job .K) m (job .K)) (sheetBytes job g m out theCounts)) where
+      (stands : Stands s (recordAt (job .n) (job .K) m (job .K)) (jobSheet job g m out theCounts)) where
     abbrev at : ℕ
     at = recordAt (job .n) (job .K) m (job .K)
 
@@ -67,7 +65,7 @@ module _ (hash : List ℕ → List ℕ) (job : Job) (gone : List ℕ) (m : ℕ) 
     good = good-group hash job f
 
     -- a count is the number of ballots whose first row has its 1 there
-    votes-opened : (i : ℕ) → votes i ≡ sumBelow (job .K) (λ k. openedTo job gone k 0 i)
+    votes-opened : (i : ℕ) → votes i ≡ sumBelow (job .K) (λ k. opened (rowsOf job gone k) 0 i)
     votes-opened i =
         votes-table (job .n) gone (job .K) (rankingOf job) (suc i)
         ∙ sum-same (job .K) _ _ (λ k l. rw (first-standing (job .n) gone (rankingOf job k) (ranked-processes (job .n) (rankingOf job k) (f .ranked k l)), add-one))
@@ -111,11 +109,11 @@ module _ (hash : List ℕ → List ℕ) (job : Job) (gone : List ℕ) (m : ℕ) 
     module _ (rows : ℕ) (some-row : 0 < rows)
         (read : (k : ℕ) → k < job .K → SameMatrix rows (job .n) (matrixAt s (job .n) (recordAt (job .n) (job .K) m k)) (jobMatrix job g gone m k)) where
       tally : tallies s (headerOf hash job) m ≡ true
-      unfolding tallies jobMatrix powMod
+      unfolding tallies matrixOf powMod
       tally =
           all-true (job .n) _ (λ i l.
           let x : ℕ → ℕ = λ k. secret job m k 0 i in
-          let v : ℕ → ℕ = λ k. openedTo job gone k 0 i in
+          let v : ℕ → ℕ = λ k. opened (rowsOf job gone k) 0 i in
           let eb = prod-same (job .K) (λ k. matrixAt s (job .n) (recordAt (job .n) (job .K) m k) .b 0 i) (λ k. paired g (x k) (v k)) (λ k a. read k a .same-b 0 i some-row l) in
           let ey = prod-same (job .K) (λ k. matrixAt s (job .n) (recordAt (job .n) (job .K) m k) .y 0 i) (λ k. powMod (job .p) (g .g1) (x k)) (λ k a. read k a .same-y 0 i some-row l) in
           let b = prod-pairs g good (job .K) x v in
@@ -130,7 +128,7 @@ module _ (hash : List ℕ → List ℕ) (job : Job) (gone : List ℕ) (m : ℕ) 
       pub sheet-fault : (due : ℕ) → out ≡ due → sheetFault s (headerOf hash job) m due ≡ 0
       unfolding sheetFault firstFault sheetBytes
       sheet-fault due e =
-          let long : at + sheetLength (job .n) ≤ length s = omega (arith, stands .fits, sheet-length out) in
+          let long : at + sheetLength (job .n) ≤ length s = omega (arith, stands .fits, length-sheet (job .q) (job .n) (job .K) (job .draws) (roundDraws (job .n) (job .K) m) (recordDraws (job .n) m) m out theCounts) in
           let first : getD s at 0 ≡ 82 = byte-stands stands in
           let second : getD s (at + 1) 0 ≡ 84 = stands .same 1 (omega arith) in
           let number : getD s (at + 2) 0 ≡ m + 1 = stands .same 2 (omega arith) in

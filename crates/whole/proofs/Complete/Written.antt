@@ -1,9 +1,8 @@
 -- The proofs that a job writes are honest: those of its ballots, and those of its shifts.
 use Prim.Native.Nat.{ℕ, zero, suc, _+_, _*_, _-_, _%_, _^_, _≤_, _<_}
-use native.Mathlib.Nat.{sub-zero, mod-mod, mul-le-mul-right, le-refl, le-trans, eq-or-lt-of-le, le-of-suc-le-suc}
+use native.Mathlib.Nat.{mod-mod, mul-le-mul-right, le-trans}
 use native.Mathlib.Omega.{arith}
 use mathlib.Core.Path.{_≡_, refl, _∙_}
-use mathlib.Core.Logic.{⊎-elim}
 use mathlib.Core.Bool.{Bool}
 use mathlib.Core.List.{List, []}
 use lib.Dec.{eqb}
@@ -12,30 +11,21 @@ use Rattle.numbers.specs.Below.{sumBelow}
 use Rattle.group.specs.Arithmetic.{powMod}
 use Rattle.rules.specs.Group.{paired}
 use Rattle.rules.specs.Claims.{lineClaim, entryClaim, rowClaim, columnClaim}
-use Rattle.jobs.specs.Board.{lineProver, entryProver, rowProver, columnProver, jobMatrix}
-use Rattle.jobs.specs.Job.{Job, groupOf, rankingOf, secret, openedTo, standing, recordDraws, roundDraws, drawsAt, needed, plainResult, draw}
-use Rattle.whole.proofs.Elements.{Good, power-root, pair-root, paired-mod, root-mod, root-over, root-prod}
+use Rattle.jobs.specs.Board.{jobMatrix}
+use Rattle.jobs.specs.Job.{Job, groupOf, rankingOf, standing, recordDraws, roundDraws, drawsAt, needed, plainResult, draw, rowsOf}
+use Rattle.rules.proofs.Elements.{Good, power-root, pair-root, paired-mod, root-mod, root-over, root-prod}
 use Rattle.whole.proofs.Complete.Honest.{Honest}
 use Rattle.numbers.proofs.Tests.{by-cases}
-use Rattle.whole.proofs.Complete.FineJob.{Fine, good-group}
-use Rattle.whole.proofs.Rankings.{row-one, column-one}
-use Rattle.whole.proofs.Lists.{standing-all}
+use Rattle.jobs.proofs.FineJob.{Fine, good-group}
+use Rattle.jobs.proofs.Rankings.{row-one, column-one}
+use Rattle.jobs.proofs.Lists.{standing-all}
 use Rattle.whole.proofs.Complete.Claims.{prod-powers, prod-pairs, pair-zero, pair-one}
+use Rattle.jobs.specs.Records.{secretAt, opened, matrixOf, lineProver, entryProver, rowProver, columnProver}
+use Rattle.jobs.proofs.Draws.{secrets-within, draws-mono}
 
--- ---- where the draws of a record stand
-rounds-draws : (n K m m' : ℕ) → m ≤ m' → roundDraws n K m ≤ roundDraws n K m'
-unfolding roundDraws
-rounds-draws n K m zero l = let e : m ≡ 0 = omega arith in rw e (omega arith)
-rounds-draws n K m (suc m') l =
-    ⊎-elim
-    (λ (e : m ≡ suc m'). rw e (le-refl _))
-    (λ (b : m < suc m'). omega (arith, rounds-draws n K m m' (le-of-suc-le-suc b)))
-    (eq-or-lt-of-le l)
-
-matrix-draws : (n m : ℕ) → (n - m) * n ≤ recordDraws n m
-unfolding recordDraws
-matrix-draws n zero = rw sub-zero (omega arith)
-matrix-draws n (suc m) = omega arith
+-- ballot k's secret in round m at row i, column j
+abbrev pub secret : Job → (m k i j : ℕ) → ℕ
+secret job m k i j = secretAt (job .n) (job .draws) (drawsAt (job .n) (job .K) m k) i j
 
 -- a place in a matrix of so many rows
 pub cell : (n rows i j : ℕ) → i < rows → j < n → i * n + j < rows * n
@@ -45,7 +35,7 @@ module _ (hash : List ℕ → List ℕ) (job : Job) (f : Fine hash job) (m k : �
   pub draw-at : (e d : ℕ) → e < recordDraws (job .n) m → d ≡ drawsAt (job .n) (job .K) m k + e → (1 ≤ draw job d) × (draw job d < job .q)
   unfolding needed roundDraws
   draw-at e d l q =
-      let up : roundDraws (job .n) (job .K) (suc m) ≤ roundDraws (job .n) (job .K) (plainResult job .rounds) = rounds-draws (job .n) (job .K) (suc m) _ in-round in
+      let up : roundDraws (job .n) (job .K) (suc m) ≤ roundDraws (job .n) (job .K) (plainResult job .rounds) = draws-mono (job .n) (job .K) (suc m) _ in-round in
       let more : (k + 1) * recordDraws (job .n) m ≤ job .K * recordDraws (job .n) m = mul-le-mul-right (recordDraws (job .n) m) (omega arith) in
       f .drawn d (omega arith)
 
@@ -53,25 +43,25 @@ module _ (hash : List ℕ → List ℕ) (job : Job) (f : Fine hash job) (m k : �
   draw-below e d l q = draw-at e d l q .1
 
   pub secret-at : (i j : ℕ) → i < job .n - m → j < job .n → (1 ≤ secret job m k i j) × (secret job m k i j < job .q)
-  secret-at i j a b = draw-at (i * job .n + j) _ (le-trans (cell (job .n) (job .n - m) i j a b) (matrix-draws (job .n) m)) refl
+  secret-at i j a b = draw-at (i * job .n + j) _ (le-trans (cell (job .n) (job .n - m) i j a b) (secrets-within (job .n) m)) refl
 
 module _ (hash : List ℕ → List ℕ) (job : Job) (f : Fine hash job) (k : ℕ) (in-round : 0 < plainResult job .rounds) (in-ballots : k < job .K) where
   good : Good (groupOf hash job)
   good = good-group hash job f
 
   entry-left : (i j l : ℕ) → entryClaim (groupOf hash job) (jobMatrix job (groupOf hash job) [] 0 k) i j l .left ^ job .q % job .p ≡ 1
-  unfolding entryClaim jobMatrix
+  unfolding entryClaim matrixOf
   entry-left i j zero = pair-root (groupOf hash job) good _ _
   entry-left i j (suc l) = root-over (groupOf hash job) good _ _ (pair-root (groupOf hash job) good _ _) (good .root1)
 
   entry-right : (i j l : ℕ) → entryClaim (groupOf hash job) (jobMatrix job (groupOf hash job) [] 0 k) i j l .right ^ job .q % job .p ≡ 1
-  unfolding entryClaim jobMatrix
+  unfolding entryClaim matrixOf
   entry-right i j zero = power-root (groupOf hash job) good _
   entry-right i j (suc l) = power-root (groupOf hash job) good _
 
   pub entry-honest : (i j : ℕ) → i < job .n → j < job .n →
-      Honest (groupOf hash job) (entryProver job (groupOf hash job) k i j)
-  unfolding entryClaim jobMatrix powMod recordDraws
+      Honest (groupOf hash job) (entryProver (groupOf hash job) (job .n) (rowsOf job [] k) (job .draws) (drawsAt (job .n) (job .K) 0 k) i j)
+  unfolding entryClaim matrixOf powMod recordDraws
   entry-honest i j a b =
       let v : Bool = eqb (getD (standing [] (rankingOf job k)) i 0) (j + 1) in
       record {
@@ -95,7 +85,7 @@ module _ (hash : List ℕ → List ℕ) (job : Job) (f : Fine hash job) (k : ℕ
     lineSeconds i = powMod (job .p) (groupOf hash job .g1) (x i)
 
     line-honest : (from : ℕ) → from ≡ drawsAt (job .n) (job .K) 0 k + d →
-        Honest (groupOf hash job) (lineProver job (groupOf hash job) (lineClaim (groupOf hash job) (job .n) lineFirsts lineSeconds) x from)
+        Honest (groupOf hash job) (lineProver (job .draws) (lineClaim (groupOf hash job) (job .n) lineFirsts lineSeconds) (sumBelow (job .n) x) from)
     line-honest from e =
         record {
           good = good;
@@ -108,16 +98,16 @@ module _ (hash : List ℕ → List ℕ) (job : Job) (f : Fine hash job) (k : ℕ
           drawn = λ d' l. draw-below hash job f 0 k in-round in-ballots (d + d') _ (omega arith) (omega arith);
         }
 
-  pub row-honest : (i : ℕ) → i < job .n → Honest (groupOf hash job) (rowProver job (groupOf hash job) k i)
-  unfolding rowClaim jobMatrix recordDraws
+  pub row-honest : (i : ℕ) → i < job .n → Honest (groupOf hash job) (rowProver (groupOf hash job) (job .n) (rowsOf job [] k) (job .draws) (drawsAt (job .n) (job .K) 0 k) i)
+  unfolding rowClaim matrixOf recordDraws
   row-honest i a =
-      line-honest (λ j. secret job 0 k i j) (λ j. openedTo job [] k i j)
+      line-honest (λ j. secret job 0 k i j) (λ j. opened (rowsOf job [] k) i j)
       (rw (standing-all (rankingOf job k)) (row-one (job .n) (rankingOf job k) (f .ranked k in-ballots) i a))
       (4 * (job .n * job .n) + i) (omega arith) _ (omega arith)
 
-  pub column-honest : (j : ℕ) → j < job .n → Honest (groupOf hash job) (columnProver job (groupOf hash job) k j)
-  unfolding columnClaim jobMatrix recordDraws
+  pub column-honest : (j : ℕ) → j < job .n → Honest (groupOf hash job) (columnProver (groupOf hash job) (job .n) (rowsOf job [] k) (job .draws) (drawsAt (job .n) (job .K) 0 k) j)
+  unfolding columnClaim matrixOf recordDraws
   column-honest j a =
-      line-honest (λ i. secret job 0 k i j) (λ i. openedTo job [] k i j)
+      line-honest (λ i. secret job 0 k i j) (λ i. opened (rowsOf job [] k) i j)
       (rw (standing-all (rankingOf job k)) (column-one (job .n) (rankingOf job k) (f .ranked k in-ballots) j a))
       (4 * (job .n * job .n) + job .n + j) (omega arith) _ (omega arith)

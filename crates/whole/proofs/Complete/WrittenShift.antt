@@ -5,7 +5,7 @@ use native.Mathlib.Omega.{arith}
 use mathlib.Core.Path.{_≡_, sym, _∙_}
 use mathlib.Core.Bool.{true, cond}
 use mathlib.Core.List.{List, [], _∷_, _++_}
-use lib.Dec.{ltb, eqb}
+use lib.Dec.{eqb}
 use lib.ListN.{length, getD}
 use borrow.Author.Tests.{eqb-false, eq-eqb, ne-eqb}
 use Rattle.numbers.proofs.Products.{prod-same}
@@ -15,20 +15,18 @@ use Rattle.rules.specs.Group.{paired}
 use Rattle.group.specs.Arithmetic.{powMod}
 use Rattle.rules.specs.Claims.{Matrix, shiftClaim, source, besides}
 use Rattle.rules.specs.Count.{member}
-use Rattle.jobs.specs.Board.{shiftProver, jobMatrix, shiftWitness}
-use Rattle.jobs.specs.Job.{Job, groupOf, rankingOf, secret, standing, placeOf, recordDraws, plainResult}
-use Rattle.whole.proofs.Elements.{Good, power-root, pair-root, paired-mod, root-mod, root-over, root-prod, root-one}
+use Rattle.jobs.specs.Board.{jobMatrix}
+use Rattle.jobs.specs.Job.{Job, groupOf, rankingOf, standing, placeOf, recordDraws, plainResult, rowsOf, drawsAt}
+use Rattle.rules.proofs.Elements.{Good, power-root, pair-root, paired-mod, root-mod, root-over, root-prod, root-one}
 use Rattle.whole.proofs.Complete.Honest.{Honest}
 use Rattle.numbers.proofs.Tests.{by-cases}
-use Rattle.whole.proofs.Complete.FineJob.{Fine, good-group}
-use Rattle.whole.proofs.Rankings.{place-at, place-below, struck-at, times, times-member}
-use Rattle.whole.proofs.Lists.{strike}
+use Rattle.jobs.proofs.FineJob.{Fine, good-group}
+use Rattle.jobs.proofs.Rankings.{place-at, place-below, struck-at, times, times-member}
+use Rattle.jobs.proofs.Lists.{strike}
 use Rattle.whole.proofs.Complete.Claims.{pair-none, prod-powers, prod-pairs, pair-one, pair-over, power-over}
-use Rattle.whole.proofs.Complete.Written.{draw-below, secret-at}
-
--- a new row comes from one of one row more
-pub source-below : (l i rows : ℕ) → i < rows → source l i < rows + 1
-source-below l i rows h = by-cases (ltb i l) (λ e. rw e (omega arith)) (λ e. rw e (omega arith))
+use Rattle.whole.proofs.Complete.Written.{draw-below, secret-at, secret}
+use Rattle.jobs.specs.Records.{matrixOf, shiftProver, shiftWitness}
+use Rattle.jobs.proofs.Matrices.{source-below}
 
 module _ (hash : List ℕ → List ℕ) (job : Job) (f : Fine hash job) (before : List ℕ) (a m k : ℕ)
     (in-round : suc m < plainResult job .rounds) (in-ballots : k < job .K) (rows : suc m ≤ job .n) (a-low : 1 ≤ a)
@@ -45,6 +43,9 @@ module _ (hash : List ℕ → List ℕ) (job : Job) (f : Fine hash job) (before 
   abbrev new : Matrix
   new = jobMatrix job g (before ++ (a ∷ [])) (suc m) k
 
+  abbrev witness : ℕ → ℕ
+  witness = shiftWitness (job .q) (job .n) (job .draws) (drawsAt (job .n) (job .K) m k) (drawsAt (job .n) (job .K) (suc m) k) (a - 1) row
+
   good : Good g
   good = good-group hash job f
 
@@ -55,7 +56,7 @@ module _ (hash : List ℕ → List ℕ) (job : Job) (f : Fine hash job) (before 
   here = place-at a (standing before (rankingOf job k)) has
 
   root-left : (l i : ℕ) → shiftClaim g (job .n) old new (a - 1) l i .left ^ job .q % job .p ≡ 1
-  unfolding shiftClaim jobMatrix
+  unfolding shiftClaim matrixOf
   root-left l zero = root-over g good _ _ (pair-root g good _ _) (good .root1)
   root-left l (suc zero) =
       root-mod g good _ (root-prod g good (job .n) _
@@ -63,7 +64,7 @@ module _ (hash : List ℕ → List ℕ) (job : Job) (f : Fine hash job) (before 
   root-left l (suc (suc i)) = root-over g good _ _ (pair-root g good _ _) (pair-root g good _ _)
 
   root-right : (l i : ℕ) → shiftClaim g (job .n) old new (a - 1) l i .right ^ job .q % job .p ≡ 1
-  unfolding shiftClaim jobMatrix
+  unfolding shiftClaim matrixOf
   root-right l zero = power-root g good _
   root-right l (suc zero) =
       root-mod g good _ (root-prod g good (job .n) _
@@ -84,19 +85,19 @@ module _ (hash : List ℕ → List ℕ) (job : Job) (f : Fine hash job) (before 
 
   -- the struck row has its 1 at a alone
   besides-left : (j : ℕ) → j < job .n → besides (a - 1) (old .b row) j ≡ paired g (cond (eqb j (a - 1)) 0 (secret job m k row j)) 0
-  unfolding jobMatrix
+  unfolding matrixOf
   besides-left j l =
       by-cases (eqb j (a - 1))
       (λ e. rw (e, pair-none g good))
       (λ e. rw (e, here, ne-eqb a (j + 1) (λ q. eqb-false j (a - 1) e (omega arith))))
 
   besides-right : (j : ℕ) → j < job .n → besides (a - 1) (old .y row) j ≡ powMod (job .p) (g .g1) (cond (eqb j (a - 1)) 0 (secret job m k row j))
-  unfolding jobMatrix powMod
+  unfolding matrixOf powMod
   besides-right j l = by-cases (eqb j (a - 1)) (λ e. rw (e, pow-zero (g .g1)) (sym (mod-eq-of-lt (good .large)))) (λ e. rw e)
 
   known-left : (i : ℕ) → i < 2 + (job .n - suc m) * job .n →
-      shiftClaim g (job .n) old new (a - 1) row i .left % job .p ≡ job .g0 ^ shiftWitness job g m k (a - 1) row i % job .p
-  unfolding shiftClaim jobMatrix shiftWitness
+      shiftClaim g (job .n) old new (a - 1) row i .left % job .p ≡ job .g0 ^ witness i % job .p
+  unfolding shiftClaim matrixOf shiftWitness
   known-left zero l =
       let e : a ≡ a - 1 + 1 = omega arith in
       pair-one g good _ _ (paired-mod g _ _ ∙ rw (here, eq-eqb a (a - 1 + 1) e))
@@ -108,8 +109,8 @@ module _ (hash : List ℕ → List ℕ) (job : Job) (f : Fine hash job) (before 
   known-left (suc (suc i)) l = rw (moved (i / job .n)) (pair-over g good _ _ _ (source-secret i (omega arith)))
 
   known-right : (i : ℕ) → i < 2 + (job .n - suc m) * job .n →
-      shiftClaim g (job .n) old new (a - 1) row i .right % job .p ≡ g .g1 ^ shiftWitness job g m k (a - 1) row i % job .p
-  unfolding shiftClaim jobMatrix powMod shiftWitness
+      shiftClaim g (job .n) old new (a - 1) row i .right % job .p ≡ g .g1 ^ witness i % job .p
+  unfolding shiftClaim matrixOf powMod shiftWitness
   known-right zero l = mod-mod _ (job .p)
   known-right (suc zero) l =
       let x : ℕ → ℕ = λ j. cond (eqb j (a - 1)) 0 (secret job m k row j) in
@@ -119,7 +120,7 @@ module _ (hash : List ℕ → List ℕ) (job : Job) (f : Fine hash job) (before 
   known-right (suc (suc i)) l = power-over g good _ _ (source-secret i (omega arith))
 
   pub shift-honest :
-      Honest g (shiftProver job g before a m k)
+      Honest g (shiftProver g (job .n) (job .n - suc m) (rowsOf job before k) (rowsOf job (before ++ (a ∷ [])) k) row (a - 1) (job .draws) (drawsAt (job .n) (job .K) m k) (drawsAt (job .n) (job .K) (suc m) k))
   unfolding recordDraws
   shift-honest =
       record {

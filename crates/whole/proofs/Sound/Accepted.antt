@@ -12,7 +12,7 @@ use Rattle.rules.specs.Records.{RT, hasMark, recordAt}
 use Rattle.rules.specs.Claims.{matrixAt}
 use Rattle.rules.specs.Check.{place, Header, header}
 use Rattle.whole.specs.Rules.{HeaderRules, RecordRules, SheetRules}
-use Rattle.whole.proofs.Orders.{Orders, Generators, orders-of-test, generators-of-test}
+use Rattle.rules.proofs.Orders.{Orders, Generators, orders-of-test, generators-of-test}
 
 module _ (hash : List ℕ → List ℕ) (s : List ℕ) where
   pub record GoodHeader (h : Header) : Type 0 where

@@ -10,8 +10,8 @@ use Rattle.numbers.proofs.Residues.{mul-mod-left, mul-mod-right}
 use Rattle.group.specs.Elements.{Parameters}
 use Rattle.rules.specs.Group.{paired}
 use Rattle.group.specs.Arithmetic.{powMod}
-use Rattle.whole.proofs.Elements.{paired-is}
-use Rattle.whole.proofs.Orders.{Orders, Generators, same-count}
+use Rattle.rules.proofs.Elements.{paired-is}
+use Rattle.rules.proofs.Orders.{Orders, Generators, same-count}
 use Rattle.rules.specs.Openings.{Opening}
 
 product-mod : (m a a′ b b′ : ℕ) → a % m ≡ a′ % m → b ≡ b′ % m → a * b % m ≡ a′ * b′ % m

@@ -7,13 +7,12 @@ use Rattle.sha256.specs.Message.{sha256}
 use Rattle.group.specs.Elements.{parametersOf}
 use Rattle.jobs.specs.Job as J
 use Rattle.jobs.specs.Job.{groupOf}
-use Rattle.jobs.specs.Write.{drawsGood}
-use Rattle.whole.specs.ThirdDemand.{Valid}
-use Rattle.whole.proofs.Complete.FineJob.{fine}
+use Rattle.jobs.specs.Write.{drawsGood, Passed, Valid}
+use Rattle.jobs.proofs.FineJob.{fine}
 use Rattle.writer.specs.Jobs.{jobOf}
-use Rattle.writer.specs.Steps.{Told, Passed, Put}
+use Rattle.writer.specs.Steps.{Told, Put}
 use Rattle.writer.specs.declared.tests.Tested.{Tested}
-use Rattle.writer.proofs.Outcomes.{group-positive, measurable, draws-are, stops-draws, stops-room, valid, refuses}
+use Rattle.writer.proofs.Outcomes.{group-positive, measurable, draws-are, stops-draws, stops-room, refuses}
 use Rattle.writer.proofs.Boards.{bytesFor, can, room, writes}
 use borrow.Author.Needs.{needs}
 use Rattle.writer.proofs.write.Statement.{statement}
@@ -30,7 +29,7 @@ told c t e = subst (Told (jobAt c)) e (c .up-to-rankings .ensures _)
 abbrev job : tie.After-known-told → J.Job
 job c = jobAt (c .before .before .before)
 
-sound : (c : tie.After-known-told) → Passed (job c) × (parametersOf (c .before .tested .given .0 .0) ≡ groupOf sha256 (job c))
+sound : (c : tie.After-known-told) → Passed sha256 (job c) × (parametersOf (c .before .tested .given .0 .0) ≡ groupOf sha256 (job c))
 unfolding Told
 sound c = told (c .before .before .before) _ (c .before .tested .given .1)
 
@@ -38,7 +37,7 @@ draws-told : (c : tie.After-draws-good) → c .draws-good .result ≡ drawsGood 
 draws-told c = draws-are (job (c .before .before)) _ _ (c .before .measure-of .ensures) (c .draws-good .ensures)
 
 fair : (c : tie.Else1) → Valid sha256 (job (c .before .before .before))
-fair c = let t = c .before .before .before in valid (job t) (sound t .0) (sym (draws-told (c .before)) ∙ not-false _ (c .if1 .left))
+fair c = let t = c .before .before .before in record { passed = sound t .0; drawn = sym (draws-told (c .before)) ∙ not-false _ (c .if1 .left) }
 
 group-is : (c : tie.After-new) → parametersOf (c .new .result .group) ≡ groupOf sha256 (job (c .before .before .before .before .before))
 group-is c = ap parametersOf (c .new .ensures .0) ∙ sound (c .before .before .before .before .before) .1

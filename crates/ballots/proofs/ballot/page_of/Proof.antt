@@ -4,9 +4,9 @@ use native.Mathlib.Omega.{arith}
 use lib.ListN.{length, getD, replicate}
 use denote.Ref.{now}
 use Rattle.group.specs.Elements.{parametersOf}
-use Rattle.jobs.specs.Board.{pairBytes}
-use Rattle.ballots.specs.Parts.{matrixOf}
-use Rattle.ballots.proofs.Pages.{put-stands, put-long, length-pairs}
+use Rattle.jobs.specs.Records.{pairBytes, matrixOf}
+use Rattle.jobs.proofs.Lengths.{length-pairs}
+use Rattle.ballots.proofs.Pages.{put-stands, put-long}
 use Rattle.rules.proofs.Sizes.{cells}
 use borrow.Author.Needs.{needs}
 use Rattle.ballots.proofs.ballot.page_of.Statement.{statement}

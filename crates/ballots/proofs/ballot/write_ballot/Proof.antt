@@ -7,7 +7,7 @@ use denote.Ref.{now}
 use Rattle.group.specs.Elements.{parametersOf}
 use Rattle.output.specs.Written.{written}
 use Rattle.output.proofs.Laws.{more}
-use Rattle.ballots.specs.Parts.{matrixOf}
+use Rattle.jobs.specs.Records.{matrixOf}
 use Rattle.ballots.proofs.Pages.{pairs-back}
 use Rattle.rules.proofs.Sizes.{cells}
 use Rattle.ballots.proofs.Records.{ballot-joined, proofs-start}

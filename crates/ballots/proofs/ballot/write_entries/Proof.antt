@@ -10,7 +10,7 @@ use Rattle.output.specs.Written.{written}
 use Rattle.output.proofs.Laws.{none, block-more}
 use Rattle.ballots.specs.Parts.{entryIn}
 use Rattle.rules.proofs.Sizes.{cells}
-use Rattle.ballots.proofs.Entries.{length-entry}
+use Rattle.jobs.proofs.Lengths.{length-proof}
 use borrow.Author.Needs.{needs}
 use Rattle.ballots.proofs.ballot.write_entries.Statement.{statement}
 use Rattle.ballots.proofs.ballot.write_entries.Tie as tie
@@ -38,7 +38,7 @@ loop-again c =
     let f = c .before .before .before .before .before .before .before .before .before .before .args in (
       omega arith,
       search needs,
-      block-more (entryIn (now (f .label)) (parametersOf (f .g .group)) (f .n) (λ k. getD (f .list) k 0) (now (f .draws)) (f .from)) 32 (l .c) _ _ (l .out) _ (λ j h. length-entry _ _ _ _ _ _ _ _) (mul-comm 32 (l .c)) (l .inv .2) (c .before .before .write-entry .ensures),
+      block-more (entryIn (now (f .label)) (parametersOf (f .g .group)) (f .n) (λ k. getD (f .list) k 0) (now (f .draws)) (f .from)) 32 (l .c) _ _ (l .out) _ (λ j h. length-proof _ _ _ _) (mul-comm 32 (l .c)) (l .inv .2) (c .before .before .write-entry .ensures),
     )
 
 returns : tie.Need-returns Inv-loop μ-loop

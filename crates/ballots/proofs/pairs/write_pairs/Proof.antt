@@ -10,7 +10,7 @@ use Rattle.numbers.specs.Below.{blocks}
 use Rattle.group.specs.Elements.{parametersOf}
 use Rattle.output.specs.Written.{written}
 use Rattle.output.proofs.Laws.{none, block-more}
-use Rattle.ballots.specs.Parts.{matrixOf}
+use Rattle.jobs.specs.Records.{matrixOf}
 use Rattle.rules.proofs.Sizes.{few-pairs}
 use Rattle.ballots.proofs.Pages.{pairIn, pairs-through, made, row-few}
 use borrow.Author.Needs.{needs}

@@ -1,12 +1,13 @@
 use mathlib.Core.Path.{refl}
-use Prim.Native.Nat.{_+_, _-_, _≤_}
+use Prim.Native.Nat.{_+_, _≤_}
 use native.Mathlib.Omega.{arith}
 use lib.ListN.{length, replicate}
 use denote.Ref.{now}
 use Rattle.group.specs.Elements.{parametersOf}
-use Rattle.jobs.specs.Board.{pairBytes}
+use Rattle.jobs.specs.Records.{pairBytes}
 use Rattle.ballots.specs.Parts.{oldMatrix, newMatrix}
-use Rattle.ballots.proofs.Pages.{put-long, two-stand, length-pairs}
+use Rattle.jobs.proofs.Lengths.{length-pairs}
+use Rattle.ballots.proofs.Pages.{put-long, two-stand}
 use Rattle.ballots.proofs.Shifts.{count-few, cells-few}
 use borrow.Author.Needs.{needs}
 use Rattle.ballots.proofs.shift.pages_of.Statement.{statement}

@@ -12,8 +12,9 @@ use Rattle.ballots.proofs.Entries.{spread-part}
 use Rattle.plain.proofs.Sizes.{draws-first, length-first}
 use Rattle.count.specs.State.{listOf}
 use Rattle.boards.specs.Parts.{boardJob}
-use Rattle.boards.proofs.Links.{ballot-is}
-use Rattle.boards.proofs.Spans.{draws-within, up-to}
+use Rattle.boards.proofs.Turns.{ballot-is}
+use Rattle.jobs.proofs.Draws.{draws-within}
+use Rattle.statements.proofs.Lines.{row-below}
 use borrow.Author.Needs.{needs}
 use Rattle.boards.proofs.records.write_first.Statement.{statement}
 use Rattle.boards.proofs.records.write_first.Tie as tie
@@ -22,7 +23,7 @@ use Rattle.boards.proofs.records.write_first.Tie as tie
 ranked : (c : tie.After-shared-slice-known3) → c .before .before .before .before .args .b * c .before .before .before .before .args .size .n + c .before .before .before .before .args .size .n ≤ length (now (c .before .before .before .before .args .rankings))
 ranked c =
     let s = c .before .before .before .before in
-    omega (arith, up-to (s .args .b) (s .args .size .k) (s .args .size .n) (s .pre .3), s .pre .1 .listed)
+    omega (arith, row-below (s .args .size .k) (s .args .size .n) (s .args .b) (s .pre .3), s .pre .1 .listed)
 
 -- where its draws start
 here : (c : tie.After-record-draws) → c .before .before .before .before .before .before .before .args .turn .new + c .before .before .before .before .before .before .before .args .b * c .record-draws .result ≡ drawsAt (c .before .before .before .before .before .before .before .args .size .n) (c .before .before .before .before .before .before .before .args .size .k) 0 (c .before .before .before .before .before .before .before .args .b)
@@ -56,7 +57,7 @@ returns c =
     let e : c .before .before .before .before .before .before .before .still-in .result ≡ list = c .before .before .before .before .before .before .before .still-in .ensures ∙ ap (λ (x : List ℕ). padded (standing x (rankingOf job (f .b)))) (p .1 .first (p .2)) in
     c .before .before .write-ballot .ensures
     ∙ ap (λ (x : List ℕ). written x (now (f .out)))
-    (rw (c .before .before .before .half .ensures, e, here (c .before .before .before .before .before .before), p .2) (ballot-is job g (f .b) (listOf (f .turn .before)) (f .turn .a)))
+    (rw (c .before .before .before .half .ensures, here (c .before .before .before .before .before .before), p .2) (ballot-is job g (f .b) (listOf (f .turn .before)) (f .turn .a) _ e))
 
 pub write-first-spec : {M : Type 1} → statement M
 write-first-spec =

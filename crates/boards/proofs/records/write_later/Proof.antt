@@ -12,7 +12,8 @@ use Rattle.output.specs.Written.{written}
 use Rattle.plain.proofs.Sizes.{length-later}
 use Rattle.count.specs.State.{listOf}
 use Rattle.boards.specs.Parts.{boardJob, Later}
-use Rattle.boards.proofs.Spans.{draws-within, round-more, up-to}
+use Rattle.jobs.proofs.Draws.{draws-within, round-more}
+use Rattle.statements.proofs.Lines.{row-below}
 use Rattle.boards.proofs.Turns.{place-is, later-is, shifting}
 use borrow.Author.Needs.{needs}
 use Rattle.boards.proofs.records.write_later.Statement.{statement}
@@ -33,7 +34,7 @@ left s = s .pre .1 .later (was s) (next s)
 
 -- the ranking is within the list
 ranked : (s : tie.Start) → s .args .b * s .args .size .n + s .args .size .n ≤ length (now (s .args .rankings))
-ranked s = omega (arith, up-to (s .args .b) (s .args .size .k) (s .args .size .n) (s .pre .3), s .pre .1 .listed)
+ranked s = omega (arith, row-below (s .args .size .k) (s .args .size .n) (s .args .b) (s .pre .3), s .pre .1 .listed)
 
 -- where the draws of the two records start, and that they are near
 older : (c : tie.After-record-draws) → c .before .before .before .before .before .before .before .before .before .before .before .before .args .turn .old + c .before .before .before .before .before .before .before .before .before .before .before .before .args .b * c .record-draws .result ≡ drawsAt (c .before .before .before .before .before .before .before .before .before .before .before .before .args .size .n) (c .before .before .before .before .before .before .before .before .before .before .before .before .args .size .k) (was (c .before .before .before .before .before .before .before .before .before .before .before .before)) (c .before .before .before .before .before .before .before .before .before .before .before .before .args .b)

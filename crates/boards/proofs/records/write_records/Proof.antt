@@ -11,8 +11,8 @@ use Rattle.output.specs.Written.{written}
 use Rattle.output.proofs.Laws.{none, block-more}
 use Rattle.count.specs.State.{listOf}
 use Rattle.boards.specs.Parts.{boardJob}
-use Rattle.boards.proofs.Links.{length-record}
-use Rattle.boards.proofs.Spans.{up-to}
+use Rattle.jobs.proofs.Lengths.{length-record}
+use Rattle.statements.proofs.Lines.{row-below}
 use borrow.Author.Needs.{needs}
 use Rattle.boards.proofs.records.write_records.Statement.{statement}
 use Rattle.boards.proofs.records.write_records.Tie as tie
@@ -34,7 +34,7 @@ within : (c : tie.In-loop Inv-loop μ-loop) → c .before .loop .b * c .before .
 within c =
     let s = c .before .before .before .before .before .before .before in
     let r = c .before .before .record-length in
-    omega (arith, up-to (c .before .loop .b) (s .args .size .k) (r .result) (omega arith), ap (λ (x : ℕ). s .args .size .k * x) (r .ensures .0), s .pre .2)
+    omega (arith, row-below (s .args .size .k) (r .result) (c .before .loop .b) (omega arith), ap (λ (x : ℕ). s .args .size .k * x) (r .ensures .0), s .pre .2)
 
 write-record-requires : tie.Need-write-record-requires Inv-loop μ-loop
 write-record-requires c κs =

@@ -2,7 +2,7 @@ use Prim.Native.Nat.{ℕ, suc, _+_, _*_, _-_}
 use mathlib.Core.Path.{_≡_, refl, sym, ap, _∙_}
 use native.Mathlib.Omega.{arith}
 use Rattle.jobs.specs.Job.{roundDraws}
-use Rattle.boards.proofs.Spans.{round-more}
+use Rattle.jobs.proofs.Draws.{round-more}
 use Rattle.boards.proofs.rounds.turn_of.Statement.{statement}
 use Rattle.boards.proofs.rounds.turn_of.Tie as tie
 

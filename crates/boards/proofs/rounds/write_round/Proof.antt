@@ -9,8 +9,8 @@ use Rattle.rules.specs.Records.{recordLength, sheetLength}
 use Rattle.jobs.specs.Job as J
 use Rattle.jobs.specs.Job.{recordDraws}
 use Rattle.boards.specs.Parts.{boardJob}
-use Rattle.boards.proofs.Spans.{columns-within}
-use Rattle.boards.proofs.Stages.{draws-mono, turned, records-are, round-joined}
+use Rattle.jobs.proofs.Draws.{columns-within, draws-mono}
+use Rattle.boards.proofs.Stages.{turned, records-are, round-joined}
 use borrow.Author.Needs.{needs}
 use Rattle.boards.proofs.rounds.write_round.Statement.{statement}
 use Rattle.boards.proofs.rounds.write_round.Tie as tie

@@ -12,7 +12,8 @@ use Rattle.output.specs.Written.{written}
 use Rattle.output.proofs.Laws.{none}
 use Rattle.plain.proofs.Counted.{draws-more, length-more}
 use Rattle.boards.specs.Parts.{boardJob, roundOf}
-use Rattle.boards.proofs.Stages.{draws-mono, place-mono, place-next, able-down, rounds-more}
+use Rattle.jobs.proofs.Draws.{draws-mono}
+use Rattle.boards.proofs.Stages.{place-mono, place-next, able-down, rounds-more}
 use borrow.Author.Needs.{needs}
 use Rattle.boards.proofs.rounds.write_rounds.Statement.{statement}
 use Rattle.boards.proofs.rounds.write_rounds.Tie as tie

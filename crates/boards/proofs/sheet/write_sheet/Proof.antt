@@ -6,8 +6,7 @@ use lib.ListN.{length}
 use denote.Ref.{now}
 use Rattle.output.specs.Written.{written}
 use Rattle.output.proofs.Laws.{more}
-use Rattle.boards.specs.Parts.{sheetIn}
-use Rattle.boards.proofs.Columns.{sheet-none, sheet-more}
+use Rattle.boards.proofs.Columns.{sheetTo, sheet-none, sheet-more, sheet-whole}
 use borrow.Author.Needs.{needs}
 use Rattle.boards.proofs.sheet.write_sheet.Statement.{statement}
 use Rattle.boards.proofs.sheet.write_sheet.Tie as tie
@@ -15,7 +14,7 @@ use Rattle.boards.proofs.sheet.write_sheet.Tie as tie
 abbrev Inv-loop : tie.InvT-loop
 Inv-loop out₀ q n m gone draws from stride k counts i₀ out i =
     (i ≤ n) × (length out ≡ length out₀)
-    × ((o : List ℕ) → out₀ ≡ written ((82 ∷ 84 ∷ []) ++ ((m + 1) ∷ gone ∷ [])) o → out ≡ written (sheetIn i q draws from stride k m gone counts) o)
+    × ((o : List ℕ) → out₀ ≡ written ((82 ∷ 84 ∷ []) ++ ((m + 1) ∷ gone ∷ [])) o → out ≡ written (sheetTo q n k draws from stride m gone counts i) o)
 
 abbrev μ-loop : tie.MeasureT-loop
 μ-loop out₀ q n m gone draws from stride k counts i₀ out i = n - i
@@ -23,7 +22,7 @@ abbrev μ-loop : tie.MeasureT-loop
 loop-holds : tie.Need-loop-holds Inv-loop μ-loop
 loop-holds c =
     let f = c .before .before .before .before .before .before .before .before .before .before .before .args in
-    (omega arith, refl, λ o h. h ∙ sheet-none 0 (f .q) (now (f .draws)) (f .from) (f .stride) (f .k) (f .m) (f .gone) (f .sheet .counts) o)
+    (omega arith, refl, λ o h. h ∙ sheet-none (f .q) (f .n) (f .k) (now (f .draws)) (f .from) (f .stride) (f .m) (f .gone) (f .sheet .counts) o)
 
 loop-again : tie.Need-loop-again Inv-loop μ-loop
 loop-again c =
@@ -31,7 +30,7 @@ loop-again c =
     let f = c .before .before .before .before .before .before .before .before .before .before .before .before .before .before .before .before .before .args in (
       omega arith,
       search needs,
-      λ o h. sheet-more 0 (f .q) (now (f .draws)) (f .from) (f .stride) (f .k) (f .m) (f .gone) (f .sheet .counts) (l .i) _ o (l .out) _ refl (l .inv .2 o h) (c .before .before .write-tally .ensures),
+      λ o h. sheet-more (f .q) (f .n) (f .k) (now (f .draws)) (f .from) (f .stride) (f .m) (f .gone) (f .sheet .counts) (l .i) _ o (l .out) _ refl (l .inv .2 o h) (c .before .before .write-tally .ensures),
     )
 
 returns : tie.Need-returns Inv-loop μ-loop
@@ -39,7 +38,7 @@ returns c =
     let l = c .before .loop in
     let f = c .before .before .before .before .before .before .before .before .before .before .before .before .before .args in
     let e : l .i ≡ f .n = omega arith in
-    l .inv .2 _ (more _ _ _ _ _ _ refl (c .before .before .before .before .before .before .before .before .put-two .ensures) (c .before .before .before .before .put-two2 .ensures)) ∙ rw e
+    l .inv .2 _ (more _ _ _ _ _ _ refl (c .before .before .before .before .before .before .before .before .put-two .ensures) (c .before .before .before .before .put-two2 .ensures)) ∙ rw (e, sheet-whole (f .q) (f .n) (f .k) (now (f .draws)) (f .from) (f .stride) (f .m) (f .gone) (f .sheet .counts))
 
 pub write-sheet-spec : {M : Type 1} → statement M
 write-sheet-spec =

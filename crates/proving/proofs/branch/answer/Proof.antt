@@ -6,7 +6,8 @@ use lib.ListN.{length}
 use denote.Ref.{now}
 use Rattle.rules.specs.Bytes.{bytes4, part}
 use Rattle.output.specs.Written.{written}
-use Rattle.proving.specs.Plans.{branchOf, answers}
+use Rattle.jobs.specs.Prover.{branchBytes}
+use Rattle.proving.specs.Plans.{answers}
 use Rattle.proving.proofs.Branches.{branch-none, answer-more}
 use borrow.Author.Needs.{needs}
 use Rattle.proving.proofs.branch.answer.Statement.{statement}
@@ -16,7 +17,7 @@ abbrev Inv-loop : tie.InvT-loop
 Inv-loop out₀ q e statements draws at witness i₀ out i =
     (i ≤ statements) × (length out ≡ length out₀)
     × ((o : List ℕ) → length o ≡ length out₀ → out₀ ≡ written (bytes4 (e .0)) o →
-    out ≡ written (branchOf (e .0) i (λ i. part o (4 + 12 * i) 8) (answers q (e .0) witness draws at)) o)
+    out ≡ written (branchBytes (e .0) i (λ i. part o (4 + 12 * i) 8) (answers q (e .0) witness draws at)) o)
 
 abbrev μ-loop : tie.MeasureT-loop
 μ-loop out₀ q e statements draws at witness i₀ out i = statements - i

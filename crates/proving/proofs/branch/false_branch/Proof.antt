@@ -10,7 +10,8 @@ use Rattle.rules.specs.Bytes.{bytes4}
 use Rattle.sha256.specs.Feed.{Fed}
 use Rattle.statements.specs.Claims.{claimOf}
 use Rattle.output.specs.Written.{written}
-use Rattle.proving.specs.Plans.{branchOf, falseTs, falseRs}
+use Rattle.jobs.specs.Prover.{branchBytes}
+use Rattle.proving.specs.Plans.{falseTs, falseRs}
 use Rattle.proving.proofs.Stating.{stated-as}
 use Rattle.proving.proofs.Branches.{branch-none, branch-more, fed-none, fed-more, length-false}
 use borrow.Author.Needs.{needs}
@@ -20,7 +21,7 @@ use Rattle.proving.proofs.branch.false_branch.Tie as tie
 abbrev Inv-loop : tie.InvT-loop
 Inv-loop out₀ g page inverses n claim l statements draws at group e k₀ i₀ out k i =
     (i ≤ statements) × (length out ≡ length out₀)
-    × ((o : List ℕ) → out₀ ≡ written (bytes4 e) o → out ≡ written (branchOf e i (falseTs (parametersOf (g .group)) (claimOf page (parametersOf (g .group)) n claim l) draws at) (falseRs draws at)) o)
+    × ((o : List ℕ) → out₀ ≡ written (bytes4 e) o → out ≡ written (branchBytes e i (falseTs (parametersOf (g .group)) (claimOf page (parametersOf (g .group)) n claim l) draws at) (falseRs draws at)) o)
     × ((m : List ℕ) → Fed k₀ m → Fed k (m ++ blocks i (falseTs (parametersOf (g .group)) (claimOf page (parametersOf (g .group)) n claim l) draws at)))
 
 abbrev μ-loop : tie.MeasureT-loop

@@ -9,7 +9,8 @@ use Rattle.rules.specs.Bytes.{bytes4}
 use Rattle.sha256.specs.Feed.{Fed}
 use Rattle.output.specs.Written.{written}
 use Rattle.group.specs.Elements.{parametersOf}
-use Rattle.proving.specs.Plans.{branchOf, trueTs, trueRs}
+use Rattle.jobs.specs.Prover.{branchBytes}
+use Rattle.proving.specs.Plans.{trueTs, trueRs}
 use Rattle.proving.proofs.Branches.{branch-none, branch-more, fed-none, fed-more, length-true}
 use borrow.Author.Needs.{needs}
 use Rattle.proving.proofs.branch.true_branch.Statement.{statement}
@@ -18,7 +19,7 @@ use Rattle.proving.proofs.branch.true_branch.Tie as tie
 abbrev Inv-loop : tie.InvT-loop
 Inv-loop out₀ g statements draws at k₀ i₀ out k i =
     (i ≤ statements) × (length out ≡ length out₀)
-    × ((o : List ℕ) → out₀ ≡ written (bytes4 0) o → out ≡ written (branchOf 0 i (trueTs (parametersOf g) draws at) (trueRs draws at)) o)
+    × ((o : List ℕ) → out₀ ≡ written (bytes4 0) o → out ≡ written (branchBytes 0 i (trueTs (parametersOf g) draws at) (trueRs draws at)) o)
     × ((m : List ℕ) → Fed k₀ m → Fed k (m ++ blocks i (trueTs (parametersOf g) draws at)))
 
 abbrev μ-loop : tie.MeasureT-loop

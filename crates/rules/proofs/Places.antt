@@ -1,5 +1,5 @@
--- A list that stands in another at a place, and what is read there.
-use Prim.Native.Nat.{ℕ, zero, suc, _+_, _*_, _/_, _%_, _≤_, _<_}
+-- What is read where a list stands in another.
+use Prim.Native.Nat.{ℕ, zero, suc, _+_, _*_, _/_, _%_, _<_}
 use native.Mathlib.Nat.{add-assoc, add-zero, zero-add, mod-eq-of-lt, div-add-mod', not-suc-le-zero, eq-or-lt-of-le, le-of-suc-le-suc, div-div-eq-div-mul, div-lt-iff-lt-mul}
 use native.Mathlib.Omega.{arith}
 use mathlib.Core.Path.{_≡_, sym, _∙_}
@@ -9,11 +9,7 @@ use lib.ListN.{length, getD, drop, length-append, List·getD-append, length-take
 use lib.Seq.{getD-append-add, getD-drop, getD-take, ext-getD}
 use Rattle.numbers.specs.Below.{blocks}
 use Rattle.numbers.proofs.Blocks.{length-blocks}
-use Rattle.rules.specs.Bytes.{part, half, word, bytes2, bytes4}
-
-pub record Stands (s : List ℕ) (at : ℕ) (x : List ℕ) : Type 0 where
-  pub fits : at + length x ≤ length s
-  pub same : (d : ℕ) → d < length x → getD s (at + d) 0 ≡ getD x d 0
+use Rattle.rules.specs.Bytes.{part, half, word, bytes2, bytes4, Stands}
 
 pub stands-whole : (s : List ℕ) → Stands s 0 s
 stands-whole s = record { fits = omega arith; same = λ d h. rw zero-add }

@@ -8,17 +8,16 @@ use mathlib.Core.List.{List}
 use lib.Dec.{leb, ltb, eqb}
 use lib.ListN.{length}
 use borrow.Author.Tests.{ltb-true, leb-true, le-leb, eqb-true}
-use Rattle.whole.specs.ThirdDemand.{Valid}
 use Rattle.jobs.specs.Job.{boardLength, Job, groupOf, rankingOf, needed, draw}
 use Rattle.rules.specs.Check.{firstFault}
 use Rattle.numbers.proofs.Tests.{all-at}
 use Rattle.rules.specs.Group.{orders, generators}
 use Rattle.group.specs.Elements.{isElement}
-use Rattle.whole.proofs.Orders.{orders-of-test, generators-of-test}
-use Rattle.whole.proofs.Elements.{Good}
+use Rattle.rules.proofs.Orders.{orders-of-test, generators-of-test}
+use Rattle.rules.proofs.Elements.{Good}
 use Rattle.rules.proofs.Faults.{first-holds}
 use Rattle.rules.specs.Count.{isRanking}
-use Rattle.jobs.specs.Write.{jobFault}
+use Rattle.jobs.specs.Write.{Valid, jobFault}
 
 pub record Fine (hash : List ℕ → List ℕ) (job : Job) : Type 0 where
   pub n-low : 2 ≤ job .n
@@ -33,16 +32,16 @@ pub record Fine (hash : List ℕ → List ℕ) (job : Job) : Type 0 where
 
 pub fine : (hash : List ℕ → List ℕ) (job : Job) → Valid hash job → Fine hash job
 fine hash job v =
-    let a = simp and-eq-true-iff at (v .sized) in
-    let c = and-eq-true-iff _ _ .0 (v .labelled) in
-    let d = and-eq-true-iff (eqb (length (job .rankings)) (job .K * job .n)) _ .0 (v .ranked) in
+    let a = simp and-eq-true-iff at (v .passed .sized) in
+    let c = and-eq-true-iff _ _ .0 (v .passed .labelled) in
+    let d = and-eq-true-iff (eqb (length (job .rankings)) (job .K * job .n)) _ .0 (v .passed .ranked) in
     let e = and-eq-true-iff (leb (needed job) (length (job .draws))) _ .0 (v .drawn) in
     record {
       n-low = leb-true 2 (job .n) (a .0 .0 .0);
       n-high = leb-true (job .n) 8 (a .0 .0 .1);
       K-low = leb-true 1 (job .K) (a .0 .1);
       K-high = leb-true (job .K) 1000 (a .1);
-      ordered = v .ordered;
+      ordered = v .passed .ordered;
       labelled = eqb-true (length (job .label)) 32 (c .0);
       generated = c .1;
       ranked = all-at (job .K) _ (d .1);
@@ -61,11 +60,11 @@ valid hash job room h =
     let d = first-holds _ _ (omega arith) (c .1) in
     let e = first-holds _ _ (omega arith) (d .1) in
     let f = first-holds _ _ (omega arith) (e .1) in
-    (record { sized = a .0; ordered = b .0; labelled = c .0; ranked = d .0; drawn = e .0 }, leb-true _ _ (f .0))
+    (record { passed = record { sized = a .0; ordered = b .0; labelled = c .0; ranked = d .0 }; drawn = e .0 }, leb-true _ _ (f .0))
 
 pub no-refusal : (hash : List ℕ → List ℕ) (job : Job) (room : ℕ) → Valid hash job → boardLength job ≤ room → jobFault hash job room ≡ 0
 unfolding jobFault firstFault
-no-refusal hash job room v l = rw (v .sized, v .ordered, v .labelled, v .ranked, v .drawn, le-leb (boardLength job) room l)
+no-refusal hash job room v l = let t = v .passed in rw (t .sized, t .ordered, t .labelled, t .ranked, v .drawn, le-leb (boardLength job) room l)
 
 pub good-group : (hash : List ℕ → List ℕ) (job : Job) → Fine hash job → Good (groupOf hash job)
 unfolding orders generators isElement

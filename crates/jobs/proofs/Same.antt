@@ -1,29 +1,18 @@
--- A proof depends on its claims outside the known branch alone, and on its witnesses modulo q; and how long it is. Assumes nothing.
-use Prim.Native.Nat.{ℕ, _+_, _*_, _-_, _%_, _<_}
-use mathlib.Core.Path.{_≡_, refl, ap, ap₂}
+-- A proof depends on its claims outside the known branch alone, and on its witnesses modulo q.
+use Prim.Native.Nat.{ℕ, _+_, _*_, _%_, _<_}
+use mathlib.Core.Path.{_≡_, ap, ap₂}
 use mathlib.Core.List.{List, _++_}
 use native.Mathlib.Nat.{add-mod-mod}
-use native.Mathlib.Omega.{arith}
 use borrow.Author.Tests.{eqb-false}
 use lib.Dec.{eqb}
-use lib.ListN.{length, length-append}
 use Rattle.numbers.specs.Below.{blocks}
-use Rattle.numbers.proofs.Blocks.{blocks-same, length-blocks}
+use Rattle.numbers.proofs.Blocks.{blocks-same}
 use Rattle.numbers.proofs.Tests.{by-cases}
 use Rattle.numbers.proofs.Residues.{mul-mod-right}
 use Rattle.group.specs.Elements.{Parameters}
 use Rattle.rules.specs.Bytes.{bytes4}
 use Rattle.rules.specs.Proofs.{Statement}
-use Rattle.jobs.specs.Prover.{Prover, committed, commitment, responseOf, wholeChallenge, trueChallenge, proofBytes}
-
-pub length-proof : (hash : List ℕ → List ℕ) (label : List ℕ) (g : Parameters) (pr : Prover) →
-    length (proofBytes g pr hash label) ≡ pr .branches * (4 + 12 * pr .statements)
-unfolding proofBytes
-length-proof hash label g pr =
-    length-blocks (pr .branches) (4 + 12 * pr .statements) _ (λ l h.
-    let n : length (blocks (pr .statements) (λ i. committed g pr l i ++ bytes4 (responseOf g pr hash label l i))) ≡ pr .statements * 12 =
-    length-blocks (pr .statements) 12 _ (λ i k. refl) in
-    simp length-append (omega arith))
+use Rattle.jobs.specs.Prover.{Prover, committed, commitment, responseOf, wholeChallenge, trueChallenge, proofBytes, branchBytes}
 
 module _ (hash : List ℕ → List ℕ) (label : List ℕ) (g : Parameters) (draw : ℕ → ℕ) (branches statements known from : ℕ) where
   abbrev maker : (ℕ → ℕ → Statement) → (ℕ → ℕ) → Prover
@@ -57,7 +46,7 @@ module _ (hash : List ℕ → List ℕ) (label : List ℕ) (g : Parameters) (dra
         by-cases (eqb l known) (λ e. rw (e, same-true) (answer-near _ _ (w i) (w' i) (near i k))) (λ e. rw e)
 
     pub proof-same : proofBytes g (maker claim w) hash label ≡ proofBytes g (maker claim' w') hash label
-    unfolding proofBytes
+    unfolding proofBytes branchBytes
     proof-same =
         blocks-same branches _ _ (λ l h.
         ap₂ _++_ (ap bytes4 (by-cases (eqb l known) (λ e. rw (e, same-true)) (λ e. rw e)))

@@ -5,40 +5,34 @@ use native.Mathlib.Omega.{arith}
 use mathlib.Core.Path.{_≡_, refl, ap}
 use mathlib.Core.Bool.{true, cond}
 use mathlib.Core.List.{List, _++_}
-use lib.Dec.{eqb}
-use lib.ListN.{length}
-use Rattle.numbers.specs.Below.{prodBelow, blocks}
-use Rattle.numbers.proofs.Tests.{and-true, all-true}
+use lib.Dec.{ltb, eqb}
+use Rattle.numbers.specs.Below.{prodBelow}
+use Rattle.numbers.proofs.Tests.{by-cases, and-true, all-true}
 use Rattle.numbers.proofs.Products.{prod-same}
-use Rattle.rules.specs.Bytes.{bytes4}
+use Rattle.rules.specs.Bytes.{bytes4, Stands}
 use Rattle.group.specs.Elements.{Parameters, isElement}
 use Rattle.rules.specs.Claims.{Matrix, matrixAt, entryClaim, rowClaim, columnClaim, shiftClaim, source, besides}
 use Rattle.rules.specs.Check.{Header, pairsGood}
-use Rattle.whole.proofs.Complete.WrittenShift.{source-below}
-use Rattle.whole.proofs.Complete.Places.{Stands, stands-left, stands-right, stands-moved, stands-block, word-stands}
-use Rattle.numbers.proofs.Blocks.{length-blocks}
+use Rattle.rules.proofs.Places.{stands-left, stands-right, stands-moved, stands-block, word-stands}
+use Rattle.jobs.specs.Records.{pairBytes}
+use Rattle.jobs.proofs.Lengths.{length-pairs-row}
+
+-- a new row comes from one of one row more
+pub source-below : (l i rows : ℕ) → i < rows → source l i < rows + 1
+source-below l i rows h = by-cases (ltb i l) (λ e. rw e (omega arith)) (λ e. rw e (omega arith))
 
 -- two matrices with the same pairs
 pub record SameMatrix (rows n : ℕ) (M M' : Matrix) : Type 0 where
   pub same-b : (i j : ℕ) → i < rows → j < n → M .b i j ≡ M' .b i j
   pub same-y : (i j : ℕ) → i < rows → j < n → M .y i j ≡ M' .y i j
 
-abbrev pub pairs : (n : ℕ) → Matrix → (rows : ℕ) → List ℕ
-pairs n M rows = blocks rows (λ i. blocks n (λ j. bytes4 (M .b i j) ++ bytes4 (M .y i j)))
-
-row-length : (n : ℕ) (M : Matrix) (i : ℕ) → length (blocks n (λ j. bytes4 (M .b i j) ++ bytes4 (M .y i j))) ≡ n * 8
-row-length n M i = length-blocks n 8 (λ j. bytes4 (M .b i j) ++ bytes4 (M .y i j)) (λ _ _. refl)
-
-pub pairs-length : (n : ℕ) (M : Matrix) (rows : ℕ) → length (pairs n M rows) ≡ rows * (n * 8)
-pairs-length n M rows = length-blocks rows (n * 8) _ (λ i _. row-length n M i)
-
 pub pairs-stand : (s : List ℕ) (at n rows : ℕ) (M : Matrix) → ((i j : ℕ) → M .b i j < 4294967296) → ((i j : ℕ) → M .y i j < 4294967296) →
-    Stands s (at + 4) (pairs n M rows) → SameMatrix rows n (matrixAt s n at) M
+    Stands s (at + 4) (pairBytes n M rows) → SameMatrix rows n (matrixAt s n at) M
 unfolding matrixAt
 pairs-stand s at n rows M small-b small-y h =
     let cell : (i j : ℕ) → i < rows → j < n → Stands s (at + 4 + 8 * (i * n + j)) (bytes4 (M .b i j) ++ bytes4 (M .y i j)) = λ i j a b.
     stands-moved (omega arith)
-    (stands-block n 8 (λ j. bytes4 (M .b i j) ++ bytes4 (M .y i j)) (λ _ _. refl) (stands-block rows (n * 8) _ (λ i _. row-length n M i) h i a) j b) in
+    (stands-block n 8 (λ j. bytes4 (M .b i j) ++ bytes4 (M .y i j)) (λ _ _. refl) (stands-block rows (n * 8) _ (λ i _. length-pairs-row n M i) h i a) j b) in
     record {
       same-b = λ i j a b. word-stands (small-b i j) (stands-left (bytes4 (M .b i j)) _ (cell i j a b));
       same-y = λ i j a b. word-stands (small-y i j) (stands-right (bytes4 (M .b i j)) _ refl (cell i j a b));

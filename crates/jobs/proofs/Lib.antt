@@ -1,0 +1,9 @@
+-- Laws of the writer's definitions.
+pub mod Lists
+pub mod Rankings
+pub mod Lengths
+pub mod Same
+pub mod Draws
+pub mod Matrices
+pub mod FineJob
+pub mod Counting
