@@ -67,7 +67,8 @@ fn rounds(board: &[u8], at: usize, h: Head) -> Checked
                 return refused(why, place);
             }
             Round::Closed(winner) => {
-                return accepted(count, n, winner);
+                let ended = turned.count;
+                return accepted(ended, n, winner);
             }
             Round::Open(out) => {
                 let next = turned.count;

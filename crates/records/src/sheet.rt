@@ -27,7 +27,7 @@ pub enum Outcome {
     Open(usize),
 }
 
-// It, and the standing count that the sheet hands back: the next, or the one that it took where no process goes out.
+// It, and the standing count that the sheet hands back: the next; the one that it took, with the sheet kept, where it closes the board; or the one that it took.
 pub struct Step {
     pub outcome: Outcome,
     pub count: Count,
@@ -143,9 +143,11 @@ fn counted(count: Count, sheet: Sheet, n: usize, k: usize, out: usize) -> Step
         if out != 0 {
             return refused(Refusal::Out, count);
         }
+        let ended = count.close(sheet, n);
+        let last = ended.count;
         return Step {
-            outcome: Outcome::Closed(count.wins(sheet, n)),
-            count,
+            outcome: Outcome::Closed(ended.winner),
+            count: last,
         };
     }
     let leaves = count.leaves(sheet, n);
@@ -154,7 +156,7 @@ fn counted(count: Count, sheet: Sheet, n: usize, k: usize, out: usize) -> Step
     }
     Step {
         outcome: Outcome::Open(leaves),
-        count: count.sheet(sheet, leaves),
+        count: count.next(sheet, leaves),
     }
 }
 
