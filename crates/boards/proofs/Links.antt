@@ -111,7 +111,7 @@ sheet-is job g m out counts counts' h =
 
 -- lengths
 pub length-record : (hash : List ℕ → List ℕ) (job : Job) (g : Parameters) (before : List ℕ) (a m k : ℕ) → length (recordBytes hash job g before a m k) ≡ recordLength (job .n) m
-unfolding recordBytes ballotBytes shiftBytes recordLength ballotLength shiftLength
+unfolding recordBytes ballotBytes shiftBytes recordLength
 length-record hash job g before a zero k =
     let n = job .n in
     let p = length-pairs n (jobMatrix job g [] 0 k) n in
@@ -126,5 +126,5 @@ length-record hash job g before a (suc m) k =
     simp length-append (omega arith)
 
 pub length-sheet : (job : Job) (g : Parameters) (m out : ℕ) (counts : List ℕ) → length (sheetBytes job g m out counts) ≡ sheetLength (job .n)
-unfolding sheetBytes sheetLength
+unfolding sheetBytes
 length-sheet job g m out counts = omega (arith, length-blocks (job .n) 6 (λ i. bytes2 (getD counts i 0) ++ bytes4 (sumBelow (job .K) (λ k. getD (job .draws) (drawsAt (job .n) (job .K) m k + (0 * job .n + i)) 0) % g .q)) (λ _ _. refl))

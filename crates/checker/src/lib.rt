@@ -96,5 +96,5 @@ pub fn check(board: &[u8]) -> Checked
 {
     let r = reading::start(board);
     let opened = reading::header_of(r);
-    reading::verdict_of(reading::moved(r, 54), opened)
+    reading::verdict_of(reading::moved(r, layout::HEADER_LENGTH), opened)
 }

@@ -108,7 +108,7 @@ pub fn turn(board: &[u8], h: Head, count: Count, stage: Stage) -> Turned
     match outcome {
         Outcome::Refused(why) => refused(why, number, next),
         Outcome::Closed(winner) => {
-            if board.len() != at + (4 + 6 * n) {
+            if board.len() != at + layout::sheet_length(n) {
                 return refused(Refusal::Remain, number + 1, count);
             }
             Turned {

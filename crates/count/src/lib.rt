@@ -27,12 +27,6 @@ pub struct Ended {
     pub winner: usize,
 }
 
-fn wide64(x: u32) -> u64
-    ensures { λ r. ⌜ (r ≡ x) × (r < 4294967296) ⌝ }
-{
-    x as u64
-}
-
 // Whether a process with this count is picked before one with that: of the least, where it is no higher; of the most, where it is higher.
 fn preferred(least: bool, this: u32, that: u32) -> bool
     ensures { λ r. ⌜ r ≡ preferred least this that ⌝ }
@@ -68,7 +62,7 @@ fn passes(out: bool, votes: u32, k: u32) -> bool
     if out {
         return false;
     }
-    wide64(k) < 2 * wide64(votes)
+    numbers::long(k) < 2 * numbers::long(votes)
 }
 
 impl Gone {

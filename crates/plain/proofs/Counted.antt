@@ -21,15 +21,6 @@ use Rattle.count.specs.State.{standingOf, listOf, Listed}
 use Rattle.rules.specs.Answers.{padded}
 use Rattle.plain.proofs.Lists.{pad-more}
 
-or-first : (a b : Bool) → a ≡ true → (a || b) ≡ true
-or-first true b e = refl
-or-first false b e = absurd (true≢false (sym e))
-
-pub not-last : (n : ℕ) (st : Standing) (cs : List ℕ) (K m : ℕ) → closes n st cs K ≡ false → length (st .sheets) ≡ m → m + 1 ≡ n - 1 → ⊥
-unfolding closes
-not-last n st cs K m h e t =
-    true≢false (sym (or-first (eqb (length (st .sheets) + 1) (n - 1)) (majority n st cs K) (eq-eqb (length (st .sheets) + 1) (n - 1) (rw e t))) ∙ h)
-
 module _ (n k : ℕ) (f : ℕ → List ℕ) (c : Count) (m : ℕ) (cs : List ℕ) (low : m < n)
     (w : plainCount n (table k f) ≡ countFrom n (table k f) (n - m) (standingOf n c))
     (e : cs ≡ countsOf n (table k f) (listOf (c .gone))) where
@@ -49,9 +40,9 @@ pub draws-more : (n K m d r : ℕ) → d ≡ roundDraws n K m → r ≡ recordDr
 unfolding roundDraws
 draws-more n K m d r e h = rw (add-one, e, h)
 
-pub length-more : (n K m d r : ℕ) → d ≡ roundAt n K m → r ≡ recordLength n m → d + (K * r + 4 + 6 * n) ≡ roundAt n K (m + 1)
-unfolding roundAt sheetLength
-length-more n K m d r e h = rw (add-one, e, h) (omega arith)
+pub length-more : (n K m d r s : ℕ) → d ≡ roundAt n K m → r ≡ recordLength n m → s ≡ sheetLength n → d + (K * r + s) ≡ roundAt n K (m + 1)
+unfolding roundAt
+length-more n K m d r s e h t = rw (add-one, e, h, t) (omega arith)
 
 -- the first of an order, one by one
 pub first-more : (order : List ℕ) (i : ℕ) → i < 8 → length order ≡ 8 → set (padded (take i order)) i (getD order i 0) ≡ padded (take (i + 1) order)

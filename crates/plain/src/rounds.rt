@@ -6,7 +6,7 @@ ghost use mathlib.Core.Path.{_≡_};
 ghost use Prim.Native.Nat.{_+_, _*_, _≤_, _<_};
 ghost use lib.ListN.{length};
 ghost use Rattle.rules.specs.Bytes.{part};
-ghost use Rattle.rules.specs.Records.{recordLength, roundAt};
+ghost use Rattle.rules.specs.Records.{roundAt};
 ghost use Rattle.rules.specs.Count.{plainCount, table};
 ghost use Rattle.jobs.specs.Job.{recordDraws, roundDraws};
 ghost use Rattle.count.specs.State.{resultOf, Kept};
@@ -27,18 +27,6 @@ pub fn record_draws(n: usize, m: usize) -> usize
     }
     let r = n - m;
     r * n + (r + 1) * (2 + r * n) + r
-}
-
-// Its length.
-pub fn record_length(n: usize, m: usize) -> usize
-    requires { ⌜ (n ≤ 8) × (m < n) ⌝ }
-    ensures { λ r. ⌜ (r ≡ recordLength n m) × (r ≤ 10000) ⌝ }
-{
-    if m == 0 {
-        return 4 + 40 * (n * n) + 32 * n;
-    }
-    let r = n - m;
-    4 + 8 * (r * n) + (r + 1) * (28 + 12 * (r * n))
 }
 
 // The plain count of k rankings: the sheet of every round, the order of going out and the winner.
@@ -64,10 +52,10 @@ pub fn measure_of(n: usize, k: usize, rounds: usize) -> Measure
     ensures { λ r. ⌜ (r .needed ≡ roundDraws n k rounds) × (r .length ≡ roundAt n k rounds) × (r .needed ≤ 10000000) ⌝ }
 {
     let mut needed = 0;
-    let mut length = 54;
+    let mut length = layout::HEADER_LENGTH;
     for m in 0..rounds {
         needed += k * record_draws(n, m);
-        length += k * record_length(n, m) + 4 + 6 * n;
+        length += k * layout::record_length(n, m) + layout::sheet_length(n);
     }
     Measure { needed, length }
 }

@@ -12,11 +12,10 @@ ghost use mathlib.Core.Path.{_≡_};
 ghost use Prim.Native.Nat.{_+_, _*_, _≤_, _<_};
 ghost use lib.ListN.{length, getD};
 ghost use Rattle.numbers.specs.Below.{allBelow};
-ghost use Rattle.rules.specs.Records.{recordAt, recordLength, roundAt};
+ghost use Rattle.rules.specs.Records.{recordAt, recordLength, roundAt, sheetLength};
 ghost use Rattle.rules.specs.Check.{counts, sheetFault, due};
 ghost use Rattle.count.specs.State.{standingOf, countsOn, Kept};
 ghost use Rattle.records.specs.Heads.{headOf, Known};
-ghost use Rattle.records.specs.Sizes.{sheetSize};
 ghost use Rattle.records.specs.Faults.{Counted, exponentOf, outFault, Stepped};
 ghost use Rattle.records.specs.Parts.{tallyAt};
 
@@ -42,7 +41,7 @@ struct SheetFields {
 
 // The counts and exponents of the sheet of round m, left to right.
 fn sheet_fields(board: &[u8], h: Head, m: usize, at: usize) -> SheetFields
-    requires { ⌜ Known (now board) h × (at ≡ recordAt (h .n) (h .k) m (h .k)) × (at + sheetSize (h .n) ≤ length (now board)) ⌝ }
+    requires { ⌜ Known (now board) h × (at ≡ recordAt (h .n) (h .k) m (h .k)) × (at + sheetLength (h .n) ≤ length (now board)) ⌝ }
     ensures { λ r. ⌜ Counted (now (board .entry)) h m at (r .sheet .counts) (r .s) (r .fault) ⌝ }
 {
     let n = h.n;

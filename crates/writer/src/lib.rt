@@ -15,7 +15,7 @@ ghost use lib.ListN.{length, replicate};
 ghost use Rattle.sha256.specs.Message.{sha256};
 ghost use Rattle.group.specs.Elements.{parametersOf};
 ghost use Rattle.rules.specs.Answers.{refusalNumber};
-ghost use Rattle.rules.specs.Records.{roundAt};
+ghost use Rattle.rules.specs.Records.{headerLength, roundAt};
 ghost use Rattle.jobs.specs.Write.{boardWritten, jobRefused, writeOutcome, writeOutput};
 ghost use Rattle.jobs.specs.Replies.{outcomeOf, orderWritten};
 ghost use Rattle.statements.specs.Values.{Ready};
@@ -73,7 +73,7 @@ fn put_board(
     room: usize,
 ) -> bool
     requires { ⌜ Ready g × Able (boardJob size (parametersOf (g .group)) (now label) (now rankings) (now draws)) (count .gone .order) (count .gone .outs + 1) × (length (now label) ≡ 32) ⌝ }
-    requires { ⌜ (54 ≤ room) × (roundAt (size .n) (size .k) (count .gone .outs + 1) ≤ room) ⌝ }
+    requires { ⌜ (headerLength ≤ room) × (roundAt (size .n) (size .k) (count .gone .outs + 1) ≤ room) ⌝ }
     ensures { λ r. ⌜ Put room (bytesOf size (parametersOf (g .group)) (now (label .entry)) (now (rankings .entry)) (now (draws .entry)) (count .gone .order) (count .gone .outs + 1)) (now (out .entry)) (now (out .exit)) r ⌝ }
 {
     if out.len() < room {

@@ -6,6 +6,7 @@ use native.Mathlib.Omega.{arith}
 use lib.ListN.{length}
 use borrow.Author.Needs.{needs}
 use Rattle.sha256.specs.Message.{sha256}
+use Rattle.rules.specs.Records.{sheetLength}
 use Rattle.rules.specs.Count.{start}
 use Rattle.rules.specs.Check.{accepted, checkFrom, counts}
 use Rattle.rules.specs.Answers.{orderOf, padded}
@@ -13,11 +14,10 @@ use Rattle.count.specs.State.{standingOf, Kept}
 use Rattle.count.specs.declared.Gone.{Gone}
 use Rattle.count.proofs.Picks.{sheets-many, same-gone}
 use Rattle.records.specs.Heads.{headOf}
-use Rattle.records.specs.Sizes.{sheetSize}
 use Rattle.checker.specs.declared.turns.Round.the-variants.{Open, Closed}
 use Rattle.checker.specs.Stages.{Placed}
 use Rattle.checker.specs.Outcomes.{Rounded}
-use Rattle.checker.proofs.RoundPlaces.{sheet-at, sheet-size, placed-first, placed-next}
+use Rattle.checker.proofs.RoundPlaces.{sheet-at, placed-first, placed-next}
 use Rattle.checker.proofs.Onward.{one-leaves, ends, goes-on}
 use Rattle.checker.proofs.rounds.Statement.{statement}
 use Rattle.checker.proofs.rounds.Tie as tie
@@ -88,12 +88,12 @@ opens c = rw (c .before .round3 .given .1) at (c .before .before .before .turn .
 -- and its sheet is on the board
 room : (c : tie.After-known-told3 Inv-loop μ-loop) →
     let a = c .before .before .before .before .before .before .before .before .args in
-    let l = c .before .before .before .before .loop in l .stage .at + a .h .k * l .stage .size + sheetSize (a .h .n) ≤ length (now (a .board))
+    let l = c .before .before .before .before .loop in l .stage .at + a .h .k * l .stage .size + sheetLength (a .h .n) ≤ length (now (a .board))
 unfolding Rounded
 room c =
     let a = c .before .before .before .before .before .before .before .before .args in
     let l = c .before .before .before .before .loop in
-    rw (sheet-at (now (a .board)) (a .h) (l .stage) (l .inv .0), ← sheet-size (a .h .n)) (opens c .2)
+    rw (sheet-at (now (a .board)) (a .h) (l .stage) (l .inv .0)) (opens c .2)
 
 next-requires : tie.Need-next-requires Inv-loop μ-loop
 next-requires c κs =

@@ -51,7 +51,7 @@ module _ (hash : List ℕ → List ℕ) (job : Job) (gone : List ℕ) (m : ℕ) 
   field i = bytes2 (getD theCounts i 0) ++ bytes4 (secrets i % job .q)
 
   pub sheet-length : (out : ℕ) → length (sheetBytes job g m out theCounts) ≡ sheetLength (job .n)
-  unfolding sheetBytes sheetLength
+  unfolding sheetBytes
   sheet-length out = omega (arith, length-blocks (job .n) 6 field (λ _ _. refl))
 
   pub count-at : (i : ℕ) → i < job .n → getD theCounts i 0 ≡ votes i

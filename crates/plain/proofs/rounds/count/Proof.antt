@@ -4,9 +4,10 @@ use native.Mathlib.Omega.{arith}
 use denote.Ref.{now}
 use Rattle.rules.specs.Bytes.{part}
 use Rattle.rules.specs.Count.{plainCount, countFrom, table}
+use Rattle.rules.proofs.Leaving.{not-last}
 use Rattle.count.specs.State.{Kept, standingOf}
 use Rattle.count.proofs.Picks.{sheets-many}
-use Rattle.plain.proofs.Counted.{not-last, count-goes, count-ends, far}
+use Rattle.plain.proofs.Counted.{count-goes, count-ends, far}
 use borrow.Author.Needs.{needs}
 use Rattle.plain.proofs.rounds.count.Statement.{statement}
 use Rattle.plain.proofs.rounds.count.Tie as tie
@@ -41,7 +42,7 @@ loop-again c =
     let f = c .before .before .before .before .before .before .before .before .before .args in
     let h = c .next .ensures in
     let no = sym (c .before .before .before .closes .ensures) ∙ c .before .before .if1 .left in
-    let last = not-last (f .n) (standingOf (f .n) (l .count)) _ (f .k) _ no (sheets-many (f .n) (l .count) (l .inv .0)) in (
+    let last = not-last (f .n) _ (standingOf (f .n) (l .count)) _ (f .k) (sheets-many (f .n) (l .count) (l .inv .0)) no in (
       h .1,
       rw (h .0) (far (l .count .gone .outs) (f .n) (l .inv .1) last),
       count-goes (f .n) (f .k) (λ b. part (now (f .rankings)) (b * f .n) (f .n)) (l .count) _ _ (omega (arith, l .inv .1)) (l .inv .2) (c .before .before .before .before .tally .ensures) no

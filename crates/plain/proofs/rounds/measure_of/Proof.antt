@@ -28,13 +28,13 @@ loop-holds c = (omega arith, refl, refl, omega arith, omega arith)
 
 loop-again : tie.Need-loop-again Inv-loop μ-loop
 loop-again c =
-    let l = c .before .before .before .loop in
-    let f = c .before .before .before .before .args in (
+    let l = c .before .before .before .before .loop in
+    let f = c .before .before .before .before .before .args in (
       omega arith,
-      draws-more (f .n) (f .k) (l .m) (l .needed) _ (l .inv .1) (c .before .record-draws .ensures .0),
-      length-more (f .n) (f .k) (l .m) (l .length) _ (l .inv .2) (c .record-length .ensures .0),
-      omega (arith, few (c .before), l .inv .3),
-      omega (arith, short c, l .inv .4),
+      draws-more (f .n) (f .k) (l .m) (l .needed) _ (l .inv .1) (c .before .before .record-draws .ensures .0),
+      length-more (f .n) (f .k) (l .m) (l .length) _ _ (l .inv .2) (c .before .record-length .ensures .0) (c .sheet-length .ensures .0),
+      omega (arith, few (c .before .before), l .inv .3),
+      omega (arith, short (c .before), c .sheet-length .ensures .1, l .inv .4),
     )
 
 returns : tie.Need-returns Inv-loop μ-loop
@@ -47,5 +47,5 @@ pub measure-of-spec : {M : Type 1} → statement M
 measure-of-spec =
     tie.close
     (tie.spec Inv-loop μ-loop loop-holds (λ c κs. search needs) (λ c. omega (arith, few c)) (λ c. omega (arith, few c)) (λ c κs. search needs)
-    (λ c. omega (arith, short c)) (λ c. omega (arith, short c)) (λ c. omega (arith, short c)) (λ c. omega (arith, short c)) (λ c. omega (arith, short c))
+    (λ c. omega (arith, short c)) (λ c κs. search needs) (λ c. omega (arith, short (c .before), c .sheet-length .ensures .1)) (λ c. omega (arith, short (c .before), c .sheet-length .ensures .1))
     (λ c. omega arith) (λ c. omega arith) loop-again returns)
