@@ -125,6 +125,6 @@ pub fn write_ballot(
     let group = g.group;
     let page = page_of(group, n, list, draws, from);
     let proofs = 4 + 8 * (n * n);
-    pairs::put_front(out, 66, 65, number, &page[4..proofs]);
+    pairs::put_front(out, layout::BA, number, &page[4..proofs]);
     write_proofs(&mut out[proofs..], label, g, n, list, &page, draws, from);
 }

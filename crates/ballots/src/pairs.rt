@@ -59,11 +59,11 @@ pub fn write_pairs(
 }
 
 // What a ballot's record starts with: its mark, its number and its pairs.
-pub fn put_front(out: &mut [u8], first: u8, second: u8, number: u32, pairs: &[u8])
+pub fn put_front(out: &mut [u8], mark: [u8; 2], number: u32, pairs: &[u8])
     requires { ⌜ 4 + length (now pairs) ≤ length (now out) ⌝ }
-    ensures { λ _. ⌜ now (out .exit) ≡ written ((first ∷ second ∷ []) ++ bytes2 number ++ now (pairs .entry)) (now (out .entry)) ⌝ }
+    ensures { λ _. ⌜ now (out .exit) ≡ written (mark ++ bytes2 number ++ now (pairs .entry)) (now (out .entry)) ⌝ }
 {
-    output::put_two(out, first, second);
+    output::put_two(out, mark);
     output::put_half(&mut out[2..], number);
     output::put_bytes(&mut out[4..], pairs);
 }

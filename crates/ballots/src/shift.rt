@@ -78,7 +78,7 @@ pub fn write_shift(out: &mut [u8], label: &[u8], g: Setup, s: Shift, draws: &[u3
     let count = s.rows * s.n;
     let page = pages_of(group, s, draws);
     let end = 516 + 8 * count;
-    pairs::put_front(out, 83, 72, s.number, &page[516..end]);
+    pairs::put_front(out, layout::SH, s.number, &page[516..end]);
     let at = 4 + 8 * count;
     write_shift_proof(&mut out[at..], label, g, s, &page, draws);
 }

@@ -8,23 +8,10 @@ ghost use lib.ListN.{length};
 ghost use Rattle.sha256.specs.Message.{sha256};
 ghost use Rattle.group.specs.Elements.{parametersOf};
 ghost use Rattle.rules.specs.Bytes.{bytes4};
+ghost use Rattle.rules.specs.Records.{headerLength};
 ghost use Rattle.jobs.specs.Board.{headerBytes};
 ghost use Rattle.output.specs.Written.{written};
 ghost use Rattle.boards.specs.Parts.{boardJob};
-
-pub fn low(x: usize) -> u8
-    requires { ⌜ x < 256 ⌝ }
-    ensures { λ r. ⌜ r ≡ x ⌝ }
-{
-    x as u8
-}
-
-pub fn half(x: usize) -> u32
-    requires { ⌜ x < 65536 ⌝ }
-    ensures { λ r. ⌜ r ≡ x ⌝ }
-{
-    x as u32
-}
 
 fn put_group(out: &mut [u8], g: Group, counter: u8)
     requires { ⌜ 17 ≤ length (now out) ⌝ }
@@ -38,12 +25,12 @@ fn put_group(out: &mut [u8], g: Group, counter: u8)
 }
 
 pub fn write_header(out: &mut [u8], size: Size, g: Group, label: &[u8])
-    requires { ⌜ (size .n < 256) × (size .k < 65536) × (length (now label) ≡ 32) × (54 ≤ length (now out)) ⌝ }
+    requires { ⌜ (size .n < 256) × (size .k < 65536) × (length (now label) ≡ 32) × (headerLength ≤ length (now out)) ⌝ }
     ensures { λ _. ⌜ now (out .exit) ≡ written (headerBytes sha256 (boardJob size (parametersOf g) (now (label .entry)) [] []) (parametersOf g)) (now (out .entry)) ⌝ }
 {
-    let n = low(size.n);
-    let k = half(size.k);
-    output::put_two(out, 72, 68);
+    let n = numbers::low(size.n);
+    let k = numbers::half(size.k);
+    output::put_two(out, layout::HD);
     output::put_byte(&mut out[2..], n);
     output::put_half(&mut out[3..], k);
     put_group(&mut out[5..], g, size.counter);

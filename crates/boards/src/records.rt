@@ -1,6 +1,5 @@
 // The records of a round's ballots.
 use crate::Size;
-use crate::header;
 use ballots::ballot;
 use ballots::shift;
 use ballots::shift::Shift;
@@ -50,7 +49,7 @@ fn write_first(
     let gone = turn.gone;
     let list = rankings::still_in(rankings, first, n, gone);
     let here = turn.new + b * rounds::record_draws(n, 0);
-    ballot::write_ballot(out, label, g, n, header::half(b + 1), list, draws, here);
+    ballot::write_ballot(out, label, g, n, numbers::half(b + 1), list, draws, here);
 }
 
 // Ballot b in a later round.
@@ -77,7 +76,7 @@ fn write_later(
     let s = Shift {
         n,
         rows: n - m,
-        number: header::half(b + 1),
+        number: numbers::half(b + 1),
         before,
         after,
         struck: rankings::place_of(before, n - m + 1, turn.a),
@@ -121,7 +120,7 @@ pub fn write_records(
     ensures { λ _. ⌜ now (out .exit) ≡ written (blocks (size .k) (recordBytes sha256 (boardJob size (parametersOf (g .group)) (now (label .entry)) (now (rankings .entry)) (now (draws .entry))) (parametersOf (g .group)) (listOf (turn .before)) (turn .a) (turn .m))) (now (out .entry)) ⌝ }
 {
     let k = size.k;
-    let width = rounds::record_length(size.n, turn.m);
+    let width = layout::record_length(size.n, turn.m);
     for b in 0..k {
         let at = b * width;
         write_record(&mut out[at..], label, g, size, rankings, draws, turn, b);

@@ -15,7 +15,7 @@ ghost use lib.ListN.{length};
 ghost use Rattle.numbers.specs.Below.{blocks};
 ghost use Rattle.sha256.specs.Message.{sha256};
 ghost use Rattle.group.specs.Elements.{parametersOf};
-ghost use Rattle.rules.specs.Records.{recordLength, sheetLength, roundAt};
+ghost use Rattle.rules.specs.Records.{headerLength, recordLength, sheetLength, roundAt};
 ghost use Rattle.jobs.specs.Job.{roundDraws};
 ghost use Rattle.jobs.specs.Board.{headerBytes};
 ghost use Rattle.output.specs.Written.{written};
@@ -69,7 +69,7 @@ fn write_round(
     let k = size.k;
     let turn = turn_of(size, order, m, from);
     records::write_records(out, label, g, size, rankings, draws, turn);
-    let at = k * rounds::record_length(n, m);
+    let at = k * layout::record_length(n, m);
     let stride = rounds::record_draws(n, m);
     let gone = turn.gone;
     let counts = votes::tally(rankings, n, k, gone);
@@ -78,7 +78,7 @@ fn write_round(
         &mut out[at..],
         q,
         n,
-        header::low(m),
+        numbers::low(m),
         order[m],
         counts,
         draws,
@@ -98,7 +98,7 @@ fn write_rounds(
     order: [u8; 8],
     count: usize,
 )
-    requires { ⌜ Ready g × Able (boardJob size (parametersOf (g .group)) (now label) (now rankings) (now draws)) order count × (roundAt (size .n) (size .k) count ≤ length (now out) + 54) ⌝ }
+    requires { ⌜ Ready g × Able (boardJob size (parametersOf (g .group)) (now label) (now rankings) (now draws)) order count × (roundAt (size .n) (size .k) count ≤ length (now out) + headerLength) ⌝ }
     ensures { λ _. ⌜ now (out .exit) ≡ written (blocks count (roundOf sha256 (boardJob size (parametersOf (g .group)) (now (label .entry)) (now (rankings .entry)) (now (draws .entry))) (parametersOf (g .group)) order)) (now (out .entry)) ⌝ }
 {
     let n = size.n;
@@ -117,7 +117,7 @@ fn write_rounds(
             m,
             from,
         );
-        at += k * rounds::record_length(n, m) + 4 + 6 * n;
+        at += k * layout::record_length(n, m) + layout::sheet_length(n);
         from += k * rounds::record_draws(n, m);
     }
 }
@@ -133,13 +133,13 @@ pub fn write_board(
     order: [u8; 8],
     count: usize,
 )
-    requires { ⌜ Ready g × Able (boardJob size (parametersOf (g .group)) (now label) (now rankings) (now draws)) order count × (length (now label) ≡ 32) × (54 ≤ length (now out)) × (roundAt (size .n) (size .k) count ≤ length (now out)) ⌝ }
+    requires { ⌜ Ready g × Able (boardJob size (parametersOf (g .group)) (now label) (now rankings) (now draws)) order count × (length (now label) ≡ 32) × (headerLength ≤ length (now out)) × (roundAt (size .n) (size .k) count ≤ length (now out)) ⌝ }
     ensures { λ _. ⌜ now (out .exit) ≡ written (headerBytes sha256 (boardJob size (parametersOf (g .group)) (now (label .entry)) (now (rankings .entry)) (now (draws .entry))) (parametersOf (g .group)) ++ blocks count (roundOf sha256 (boardJob size (parametersOf (g .group)) (now (label .entry)) (now (rankings .entry)) (now (draws .entry))) (parametersOf (g .group)) order)) (now (out .entry)) ⌝ }
 {
     let group = g.group;
     header::write_header(out, size, group, label);
     write_rounds(
-        &mut out[54..],
+        &mut out[layout::HEADER_LENGTH..],
         label,
         g,
         size,

@@ -8,6 +8,7 @@ ghost use lib.ListN.{length, getD};
 ghost use Rattle.numbers.specs.Below.{sumBelow};
 ghost use Rattle.rules.specs.Bytes.{bytes2, bytes4};
 ghost use Rattle.jobs.specs.Records.{sheetBytes};
+ghost use Rattle.rules.specs.Records.{sheetLength};
 ghost use Rattle.output.specs.Written.{written};
 
 // A column of it: its count, and the sum of its first pairs' secrets.
@@ -41,12 +42,12 @@ pub fn write_sheet(
     stride: usize,
     k: usize,
 )
-    requires { ⌜ (0 < q) × (0 < k) × (k ≤ 1000) × (stride ≤ 10000) × (n ≤ 8) × (from < 2 ^ 30) × (from + n + stride * (k - 1) ≤ length (now draws)) × (4 + 6 * n ≤ length (now out)) × (m < 8) ⌝ }
+    requires { ⌜ (0 < q) × (0 < k) × (k ≤ 1000) × (stride ≤ 10000) × (n ≤ 8) × (from < 2 ^ 30) × (from + n + stride * (k - 1) ≤ length (now draws)) × (sheetLength n ≤ length (now out)) × (m < 8) ⌝ }
     ensures { λ _. ⌜ now (out .exit) ≡ written (sheetBytes q n k (now (draws .entry)) from stride m gone (sheet .counts)) (now (out .entry)) ⌝ }
 {
     let counts = sheet.counts;
-    output::put_two(out, 82, 84);
-    output::put_two(&mut out[2..], m + 1, gone);
+    output::put_two(out, layout::RT);
+    output::put_two(&mut out[2..], [m + 1, gone]);
     for i in 0..n {
         let at = 4 + 6 * i;
         write_tally(&mut out[at..], q, counts[i], draws, from + i, stride, k);

@@ -1,5 +1,4 @@
 // Checks the boards of standard input, and prints a line for each: its name and the verdict.
-use libc::STDIN_FILENO;
 use rules::Answer;
 use testing::input;
 use testing::input::Piece;
@@ -46,10 +45,6 @@ fn run(input: &[u8]) {
 
 fn main() {
     let mut input = input::room();
-    let n = io::read_full(STDIN_FILENO, &mut input);
-    if n == input::LIMIT {
-        print::bad_input();
-        return;
-    }
+    let n = input::read(&mut input);
     run(&input[..n]);
 }

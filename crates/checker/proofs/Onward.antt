@@ -4,34 +4,25 @@ use mathlib.Core.Path.{_≡_, sym, ap, _∙_}
 use mathlib.Core.List.{List}
 use native.Mathlib.Numerals.{add-one}
 use native.Mathlib.Omega.{arith}
-use lib.ListN.{length, take-append-drop}
-use lib.Seq.{length-take-le}
 use borrow.Author.Tests.{ne-eqb}
 use Rattle.sha256.specs.Message.{sha256}
 use Rattle.rules.specs.Count.{next, leaves, start, Standing}
 use Rattle.rules.specs.Check.{Header, Verdict, refused, roundVerdict, checkFrom, checkBoard, counts}
-use Rattle.rules.specs.Answers.{refusalNumber, padded}
+use Rattle.rules.specs.Answers.{refusalNumber}
 use Rattle.rules.specs.declared.Refusal.{Refusal}
 use Rattle.rules.proofs.Leaving.{leaves-in}
 use Rattle.count.specs.declared.Count.{Count}
-use Rattle.count.specs.State.{standingOf, listOf, Kept}
-use Rattle.count.proofs.Picks.{gone-is}
+use Rattle.count.specs.State.{standingOf, Kept}
+use Rattle.count.proofs.Picks.{gone-is, listed-many}
 use Rattle.records.specs.declared.Head.{Head}
 use Rattle.records.specs.declared.header.Opened.the-variants.{Board, Refused}
 use Rattle.records.specs.Heads.{headOf, Opening}
 use Rattle.checker.proofs.FirstFault.{positive}
 
 -- ---- the standing count
-listed : (c : Count) → Kept c → length (listOf (c .gone)) ≡ c .gone .outs
-listed c k = length-take-le (c .gone .outs) (c .gone .order) (omega arith)
-
-pub kept-order : (c : Count) → Kept c → c .gone .order ≡ padded (listOf (c .gone))
-unfolding padded
-kept-order c k = rw (listed c k, ← k .listed .zeros) (sym (take-append-drop (c .gone .outs) (c .gone .order)))
-
 pub one-leaves : (n : ℕ) (c : Count) (cs : List ℕ) → Kept c → c .gone .outs < n → 1 ≤ leaves n (standingOf n c) cs
 one-leaves n c cs k l =
-    leaves-in n (standingOf n c) cs (rw (gone-is n c, listed c k) l) .low
+    leaves-in n (standingOf n c) cs (rw (gone-is n c, listed-many (c .gone) (k .listed)) l) .low
 
 -- ---- the rounds: what is due from round m on
 module _ (s : List ℕ) (H : Header) (X : Verdict) (st : Standing) (m a : ℕ) (l : m < H .n) (x : X ≡ checkFrom sha256 s H (H .n - m) st m a) where

@@ -79,12 +79,12 @@ module _ (s : List ℕ) (h : Head) (c : Count) (m a : ℕ) where
 
       pub by-end : length s ≡ recordAt (h .n) (h .k) m (h .k) + sheetLength (h .n) → Rounded s h c m a (Closed x) next
       unfolding Rounded Stepped
-      by-end l = (λ after. closed s H (standingOf (h .n) c) m a after e (sym (t .0)) (t .1) x l (t .2), t .3)
+      by-end l = (λ after. closed s H (standingOf (h .n) c) m a after e (sym (t .0)) (t .1) x l (t .2), t .3, t .4, t .5)
 
       pub by-rest : (place : ℕ) → (length s ≡ recordAt (h .n) (h .k) m (h .k) + sheetLength (h .n) → ⊥) →
-          place ≡ recordNumber (h .k) m (h .k) + 1 → Rounded s h c m a (Refused R.Remain place) next
+          place ≡ recordNumber (h .k) m (h .k) + 1 → Rounded s h c m a (Refused R.Remain place) c
       unfolding Rounded Stepped
-      by-rest place l p = (λ after. rw p (remains s H (standingOf (h .n) c) m a after e (sym (t .0)) (t .1) l), t .3)
+      by-rest place l p = (λ after. rw p (remains s H (standingOf (h .n) c) m a after e (sym (t .0)) (t .1) l), refl)
 
     pub by-next : (x : ℕ) → Stepping (O.Open x) next → Rounded s h c m a (Open x) next
     unfolding Rounded Stepped

@@ -5,22 +5,15 @@ use mathlib.Core.Bool.{false}
 use mathlib.Core.List.{List}
 use native.Mathlib.Numerals.{add-one}
 use native.Mathlib.Omega.{arith}
-use lib.Dec.{eqb}
 use lib.ListN.{length}
-use borrow.Author.Tests.{eqb-false}
-use Rattle.numbers.proofs.Tests.{or-false-left}
 use Rattle.rules.specs.Records.{headerLength, recordAt, roundAt, recordLength, ballotLength, shiftLength, sheetLength}
 use Rattle.rules.specs.Count.{Standing, closes}
+use Rattle.rules.proofs.Leaving.{not-last}
 use Rattle.records.specs.declared.Head.{Head}
 use Rattle.records.specs.Heads.{Known}
-use Rattle.records.specs.Sizes.{sheetSize}
 use Rattle.records.proofs.Places.{earlier-fits}
 use Rattle.checker.specs.declared.stages.Stage.{Stage}
 use Rattle.checker.specs.Stages.{firstStage, nextStage, Placed}
-
-pub sheet-size : (n : ℕ) → sheetLength n ≡ sheetSize n
-unfolding sheetLength
-sheet-size n = refl
 
 module _ (s : List ℕ) (h : Head) (r : Stage) (p : Placed s h r) where
   -- where the round's sheet starts
@@ -50,19 +43,14 @@ module _ (s : List ℕ) (h : Head) (r : Stage) (p : Placed s h r) where
         go (suc e) d = omega (arith, earlier-at e d .3)
 
 pub placed-first : (s : List ℕ) (h : Head) → Known s h → Placed s h (firstStage (h .n) headerLength)
-unfolding roundAt recordLength ballotLength
+unfolding roundAt recordLength
 placed-first s h p =
     record { here = refl; sized = refl; fits = p .long; round = omega (arith, p .low); first = λ _. (refl, refl); later = λ e z. absurd (omega arith) }
-
--- a round that does not close the board is not the last
-not-last : (n m : ℕ) (st : Standing) (cs : List ℕ) (K : ℕ) → length (st .sheets) ≡ m → closes n st cs K ≡ false → m + 1 ≡ n - 1 → ⊥
-unfolding closes
-not-last n m st cs K l c e = eqb-false (length (st .sheets) + 1) (n - 1) (or-false-left (eqb (length (st .sheets) + 1) (n - 1)) _ c) (rw l e)
 
 pub placed-next : (s : List ℕ) (h : Head) (r : Stage) → Placed s h r → (st : Standing) (cs : List ℕ) → length (st .sheets) ≡ r .m →
     closes (h .n) st cs (h .k) ≡ false → recordAt (h .n) (h .k) (r .m) (h .k) + sheetLength (h .n) ≤ length s →
     (a : ℕ) → 1 ≤ a → a ≤ h .n → Placed s h (nextStage (h .n) (h .k) a r)
-unfolding recordAt roundAt recordLength shiftLength sheetLength
+unfolding recordAt roundAt recordLength
 placed-next s h r p st cs l c f a la ha =
     let x = not-last (h .n) (r .m) st cs (h .k) l c in
     let y : r .at + h .k * r .size ≡ roundAt (h .n) (h .k) (r .m) + h .k * recordLength (h .n) (r .m) = rw (p .here, p .sized) in

@@ -7,11 +7,11 @@ use mathlib.Core.Option.{none, some}
 use lib.ListN.{length}
 use Rattle.sha256.specs.Message.{sha256}
 use Rattle.rules.specs.Records.{recordAt, sheetLength}
-use Rattle.rules.specs.Count.{closes, leaves, next}
+use Rattle.rules.specs.Count.{closes, leaves, next, ended}
 use Rattle.rules.specs.Check.{Verdict, accepted, refused, roundVerdict, counts, faultBelow, recordFault}
 use Rattle.rules.specs.Answers.{refusalNumber}
 use Rattle.count.specs.declared.Count.{Count}
-use Rattle.count.specs.State.{standingOf, Kept}
+use Rattle.count.specs.State.{standingOf, resultOf, Kept}
 use Rattle.records.specs.declared.Head.{Head}
 use Rattle.records.specs.Heads.{headOf}
 use Rattle.checker.specs.declared.turns.Found.{Found}
@@ -26,7 +26,7 @@ Searched s h a m F.Sound =
 Searched s h a m (F.Refused w k) =
     (k < h .k) × (faultBelow (h .k) (recordFault sha256 s (headOf s h) a m) ≡ some (k, refusalNumber w))
 
--- the round: whatever comes after it, who goes out and the next standing count; or its own verdict, and the standing count as it was
+-- the round: whatever comes after it, who goes out and the next standing count; or its own verdict, and the count ended or as it was
 unfoldable pub Rounded : (s : List ℕ) → Head → (before : Count) (m a : ℕ) → Round → (handed : Count) → Type 0
 Rounded s h before m a (Open out) handed =
     ((after : Verdict) → roundVerdict sha256 s (headOf s h) (standingOf (h .n) before) m a after ≡ after)
@@ -37,6 +37,7 @@ Rounded s h before m a (Open out) handed =
     × (standingOf (h .n) handed ≡ next (h .n) (standingOf (h .n) before) (counts s (headOf s h) m))
 Rounded s h before m a (Closed winner) handed =
     ((after : Verdict) → roundVerdict sha256 s (headOf s h) (standingOf (h .n) before) m a after ≡ accepted (m + 1) (standingOf (h .n) before .gone) winner)
-    × (handed ≡ before)
+    × (handed .gone ≡ before .gone) × Kept handed
+    × (resultOf (h .n) (record { count = handed; winner = winner }) ≡ ended (h .n) (standingOf (h .n) before) (counts s (headOf s h) m))
 Rounded s h before m a (Refused w at) handed =
     ((after : Verdict) → roundVerdict sha256 s (headOf s h) (standingOf (h .n) before) m a after ≡ refused (refusalNumber w) at) × (handed ≡ before)

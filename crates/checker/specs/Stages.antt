@@ -3,17 +3,16 @@ use Prim.Native.Nat.{ℕ, suc, _+_, _*_, _-_, _≤_, _<_}
 use mathlib.Core.Path.{_≡_}
 use mathlib.Core.List.{List}
 use lib.ListN.{length}
-use Rattle.rules.specs.Records.{roundAt, recordLength}
-use Rattle.records.specs.Sizes.{ballotSize, shiftSize, sheetSize}
+use Rattle.rules.specs.Records.{roundAt, recordLength, ballotLength, shiftLength, sheetLength}
 use Rattle.records.specs.declared.Head.{Head}
 use Rattle.checker.specs.declared.stages.Stage.{Stage}
 
 abbrev pub firstStage : (n at : ℕ) → Stage
-firstStage n at = record { m = 0; a = 0; at = at; size = ballotSize n; before = 0; earlier = 0 }
+firstStage n at = record { m = 0; a = 0; at = at; size = ballotLength n; before = 0; earlier = 0 }
 
 abbrev pub nextStage : (n k a : ℕ) → Stage → Stage
 nextStage n k a r =
-    record { m = r .m + 1; a = a; at = r .at + k * r .size + sheetSize n; size = shiftSize n (n - r .m - 1); before = r .at; earlier = r .size }
+    record { m = r .m + 1; a = a; at = r .at + k * r .size + sheetLength n; size = shiftLength n (n - r .m - 1); before = r .at; earlier = r .size }
 
 -- the round starts at its place, with records of its size; so does the round before, in which a went out
 pub record Placed (s : List ℕ) (h : Head) (r : Stage) : Type 0 where

@@ -67,7 +67,8 @@ fn rounds(board: &[u8], at: usize, h: Head) -> Checked
                 return refused(why, place);
             }
             Round::Closed(winner) => {
-                return accepted(count, n, winner);
+                let ended = turned.count;
+                return accepted(ended, n, winner);
             }
             Round::Open(out) => {
                 let next = turned.count;
@@ -95,5 +96,5 @@ pub fn check(board: &[u8]) -> Checked
 {
     let r = reading::start(board);
     let opened = reading::header_of(r);
-    reading::verdict_of(reading::moved(r, 54), opened)
+    reading::verdict_of(reading::moved(r, layout::HEADER_LENGTH), opened)
 }

@@ -1,10 +1,7 @@
 // Where a round stands on the board, and the numbers of its records.
-use records::ballot;
-use records::shift;
 ghost use mathlib.Core.Path.{_≡_};
 ghost use Prim.Native.Nat.{_+_, _*_, _-_, _≤_, _<_, _^_};
-ghost use Rattle.rules.specs.Records.{recordNumber};
-ghost use Rattle.records.specs.Sizes.{sheetSize};
+ghost use Rattle.rules.specs.Records.{recordNumber, sheetLength};
 ghost use Rattle.checker.specs.Stages.{firstStage, nextStage};
 
 // Round m, from 0: its ballots' records start at at, size bytes apart. Those of the round before start at before, earlier bytes apart, and
@@ -28,7 +25,7 @@ impl Stage {
             m: 0,
             a: 0,
             at,
-            size: ballot::ballot_size(n),
+            size: layout::ballot_length(n),
             before: 0,
             earlier: 0,
         }
@@ -36,7 +33,7 @@ impl Stage {
 
     // The round after, of k ballots, process a having gone out.
     pub fn next(self, n: usize, k: usize, a: usize) -> Stage
-        requires { ⌜ (n ≤ 8) × (self .m + 1 ≤ n) × (self .at + k * self .size + sheetSize n < 2 ^ 64) ⌝ }
+        requires { ⌜ (n ≤ 8) × (self .m + 1 ≤ n) × (self .at + k * self .size + sheetLength n < 2 ^ 64) ⌝ }
         ensures { λ r. ⌜ r ≡ nextStage n k a self ⌝ }
     {
         let m = self.m;
@@ -45,8 +42,8 @@ impl Stage {
         Stage {
             m: m + 1,
             a,
-            at: at + k * size + (4 + 6 * n),
-            size: shift::shift_size(n, n - m - 1),
+            at: at + k * size + layout::sheet_length(n),
+            size: layout::shift_length(n, n - m - 1),
             before: at,
             earlier: size,
         }

@@ -34,7 +34,7 @@ pub enum Round {
     Refused(Refusal, usize),
 }
 
-// It, and the standing count that the round's sheet hands back: the next, or the one before where no process goes out.
+// It, and the standing count that the round's sheet hands back: the next, or the one before, with the sheet kept where it closes the board.
 pub struct Turned {
     pub round: Round,
     pub count: Count,
@@ -108,8 +108,8 @@ pub fn turn(board: &[u8], h: Head, count: Count, stage: Stage) -> Turned
     match outcome {
         Outcome::Refused(why) => refused(why, number, next),
         Outcome::Closed(winner) => {
-            if board.len() != at + (4 + 6 * n) {
-                return refused(Refusal::Remain, number + 1, next);
+            if board.len() != at + layout::sheet_length(n) {
+                return refused(Refusal::Remain, number + 1, count);
             }
             Turned {
                 round: Round::Closed(winner),

@@ -1,16 +1,19 @@
--- The pick and the majority, one process at a time. Assumes nothing.
+-- The pick and the majority, one process at a time; the standing count, one sheet at a time. Assumes nothing.
 use Prim.Native.Nat.{ℕ, suc, _+_, _-_, _≤_, _<_}
-use mathlib.Core.Path.{_≡_, refl, sym, _∙_}
+use mathlib.Core.Path.{_≡_, refl, sym, ap, _∙_}
 use mathlib.Core.Bool.{Bool, true, false, cond, _||_}
-use mathlib.Core.List.{List, map-append}
+use mathlib.Core.List.{List, [], _∷_, _++_, map, map-append}
 use native.Mathlib.Numerals.{add-one}
 use native.Mathlib.Omega.{arith}
 use lib.Dec.{eqb}
-use lib.ListN.{length, getD, take, drop, set, replicate, length-map, length-set}
+use lib.ListN.{length, getD, take, drop, set, replicate, take-append-drop, length-map, length-set}
 use lib.Seq.{getD-take, length-take-le, take-suc-set, drop-set-lt, drop-drop}
-use Rattle.rules.specs.Count.{Standing, member, lowest, highest, countOf}
-use Rattle.count.specs.State.{preferred, picked, pick, passes, countsOn, listOf, standingOf, wentOut, Kept}
+use Rattle.rules.specs.Count.{Standing, ended, member, lowest, highest, wins, countOf}
+use Rattle.count.specs.State.{preferred, picked, pick, passes, countsOn, listOf, standingOf, resultOf, wentOut, Listed, Kept}
+use Rattle.rules.specs.Answers.{padded}
+use Rattle.count.specs.declared.Gone.{Gone}
 use Rattle.count.specs.declared.Count.{Count}
+use Rattle.count.specs.declared.Ended.{Ended}
 use Rattle.count.specs.declared.Sheet.{Sheet}
 
 small : (a b : Bool) (best i : ℕ) → best ≤ i → cond a best (cond b (i + 1) best) ≤ i + 1
@@ -49,9 +52,21 @@ pub gone-is : (n : ℕ) (c : Count) → standingOf n c .gone ≡ listOf (c .gone
 unfolding standingOf
 gone-is n c = refl
 
+pub same-gone : (n : ℕ) (c d : Count) → c .gone ≡ d .gone → standingOf n c .gone ≡ standingOf n d .gone
+unfolding standingOf
+same-gone n c d e = ap listOf e
+
 pub sheets-many : (n : ℕ) (c : Count) → Kept c → length (standingOf n c .sheets) ≡ c .gone .outs
 unfolding standingOf
 sheets-many n c k = length-map (take (c .gone .outs) (c .sheets)) (countsOn n) ∙ length-take-le (c .gone .outs) (c .sheets) (omega arith)
+
+-- those gone out are so many, and stand with zeros up to 8
+pub listed-many : (g : Gone) → Listed g → length (listOf g) ≡ g .outs
+listed-many g l = length-take-le (g .outs) (g .order) (omega (arith, l .few, l .order-long))
+
+pub padded-order : (g : Gone) → Listed g → g .order ≡ padded (listOf g)
+unfolding padded
+padded-order g l = sym (take-append-drop (g .outs) (g .order)) ∙ rw (l .zeros, listed-many g l)
 
 -- one more gone out, with the sheet of its round
 zeros-next : (l : List ℕ) (k x : ℕ) → k < 8 → drop k l ≡ replicate (8 - k) 0 → drop (k + 1) (set l k x) ≡ replicate (8 - (k + 1)) 0
@@ -70,12 +85,26 @@ module _ (n : ℕ) (c : Count) (t : Sheet) (x : ℕ) (k : Kept c) (h : c .gone .
         sheets-long = simp length-set (k .sheets-long);
       }
 
+  -- the sheets, with that of the round
+  sheets-next : map (countsOn n) (take (c .gone .outs + 1) (set (c .sheets) (c .gone .outs) t)) ≡ standingOf n c .sheets ++ (countsOn n t ∷ [])
+  unfolding standingOf
+  sheets-next = rw (add-one (c .gone .outs), take-suc-set (c .sheets) (c .gone .outs) t (omega arith), map-append (countsOn n))
+
   pub standing-next : standingOf n after ≡ wentOut (standingOf n c) x (countsOn n t)
   unfolding standingOf
   standing-next =
-      rw (
-        add-one (c .gone .outs),
-        take-suc-set (c .gone .order) (c .gone .outs) x (omega arith),
-        take-suc-set (c .sheets) (c .gone .outs) t (omega arith),
-        map-append (countsOn n),
-      )
+      let g : take (c .gone .outs + 1) (set (c .gone .order) (c .gone .outs) x) ≡ listOf (c .gone) ++ (x ∷ []) =
+      rw (add-one (c .gone .outs)) (take-suc-set (c .gone .order) (c .gone .outs) x (omega arith)) in
+      λ i. record { gone = g i; sheets = sheets-next i }
+
+  -- the count ended by the sheet, x the winner
+  abbrev over : Ended
+  over = record { count = record { gone = c .gone; sheets = set (c .sheets) (c .gone .outs) t }; winner = x }
+
+  pub kept-over : Kept (over .count)
+  kept-over = record { listed = k .listed; sheets-long = simp length-set (k .sheets-long) }
+
+  pub result-over : x ≡ wins n (standingOf n c) (countsOn n t) → resultOf n over ≡ ended n (standingOf n c) (countsOn n t)
+  unfolding resultOf
+  result-over e =
+      λ i. record { rounds = sym (sheets-many n c k) i + 1; counts = sheets-next i; order = sym (gone-is n c) i; winner = e i }

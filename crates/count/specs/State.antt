@@ -5,10 +5,11 @@ use mathlib.Core.List.{List, [], _∷_, _++_, map}
 use mathlib.Core.Bool.{Bool, cond, not, _&&_, _||_}
 use lib.Dec.{eqb, leb, ltb}
 use lib.ListN.{length, getD, take, drop, replicate}
-use Rattle.rules.specs.Count.{Standing, lowest, highest}
+use Rattle.rules.specs.Count.{Standing, Result, lowest, highest}
 use Rattle.count.specs.declared.Sheet.{Sheet}
 use Rattle.count.specs.declared.Gone.{Gone}
 use Rattle.count.specs.declared.Count.{Count}
+use Rattle.count.specs.declared.Ended.{Ended}
 
 -- the counts of n processes
 abbrev pub countsOn : (n : ℕ) → Sheet → List ℕ
@@ -21,6 +22,16 @@ listOf g = take (g .outs) (g .order)
 -- and the counts of as many rounds
 unfoldable pub standingOf : (n : ℕ) → Count → Standing
 standingOf n c = record { gone = listOf (c .gone); sheets = map (countsOn n) (take (c .gone .outs) (c .sheets)) }
+
+-- what a count that has ended comes to: it has one sheet more than have gone out
+unfoldable pub resultOf : (n : ℕ) → Ended → Result
+resultOf n e =
+    record {
+      rounds = e .count .gone .outs + 1;
+      counts = map (countsOn n) (take (e .count .gone .outs + 1) (e .count .sheets));
+      order = listOf (e .count .gone);
+      winner = e .winner;
+    }
 
 -- process out has gone out, with the sheet of its round: `next`, where out is who leaves
 abbrev pub wentOut : Standing → (out : ℕ) (counts : List ℕ) → Standing

@@ -1,8 +1,8 @@
 // The standing count by value: each sheet takes it and hands back the next.
 ghost use mathlib.Core.Path.{_≡_};
 ghost use Prim.Native.Nat.{ℕ, _+_, _*_, _≤_, _<_};
-ghost use Rattle.rules.specs.Count.{member, start, leaves, wins, closes, majority};
-ghost use Rattle.count.specs.State.{countsOn, listOf, standingOf, wentOut, Listed, Kept, preferred, picked, pick, passes};
+ghost use Rattle.rules.specs.Count.{member, start, ended, leaves, wins, closes, majority};
+ghost use Rattle.count.specs.State.{countsOn, listOf, standingOf, resultOf, wentOut, Listed, Kept, preferred, picked, pick, passes};
 
 // The counts of a round, by process.
 pub struct Sheet {
@@ -21,10 +21,10 @@ pub struct Count {
     pub sheets: [Sheet; 8],
 }
 
-fn wide64(x: u32) -> u64
-    ensures { λ r. ⌜ (r ≡ x) × (r < 4294967296) ⌝ }
-{
-    x as u64
+// A count that has ended, with the sheet of its last round beside the others, and the winner.
+pub struct Ended {
+    pub count: Count,
+    pub winner: usize,
 }
 
 // Whether a process with this count is picked before one with that: of the least, where it is no higher; of the most, where it is higher.
@@ -62,7 +62,7 @@ fn passes(out: bool, votes: u32, k: u32) -> bool
     if out {
         return false;
     }
-    wide64(k) < 2 * wide64(votes)
+    numbers::long(k) < 2 * numbers::long(votes)
 }
 
 impl Gone {
@@ -153,7 +153,7 @@ impl Count {
     }
 
     // The next standing count: the sheet is kept, and process out has gone out.
-    pub fn sheet(self, sheet: Sheet, out: usize) -> Count
+    pub fn next(self, sheet: Sheet, out: usize) -> Count
         requires { ⌜ Kept self × (self .gone .outs < 8) × (out ≤ 8) ⌝ }
         ensures { λ r. ⌜ (r .gone .outs ≡ self .gone .outs + 1) × Kept r × ((n : ℕ) → standingOf n r ≡ wentOut (standingOf n self) out (countsOn n sheet)) ⌝ }
     {
@@ -170,5 +170,19 @@ impl Count {
             },
             sheets,
         }
+    }
+
+    // The count ended by the sheet of its last round.
+    pub fn close(self, sheet: Sheet, n: usize) -> Ended
+        requires { ⌜ Kept self × (self .gone .outs < 8) × (n ≤ 8) ⌝ }
+        ensures { λ r. ⌜ (r .count .gone ≡ self .gone) × Kept (r .count) × (resultOf n r ≡ ended n (standingOf n self) (countsOn n sheet)) ⌝ }
+    {
+        let winner = self.wins(sheet, n);
+        let gone = self.gone;
+        let at = gone.outs;
+        let mut sheets = self.sheets;
+        sheets[at] = sheet;
+        let count = Count { gone, sheets };
+        Ended { count, winner }
     }
 }

@@ -27,24 +27,21 @@ pub enum CountField {
     Refused,
 }
 
-fn wide(x: u8) -> u32
-    ensures { λ r. ⌜ (r ≡ x) × (r < 256) ⌝ }
-{
-    x as u32
-}
-
 pub fn half(s: &[u8], at: usize) -> u32
     requires { ⌜ at + 2 ≤ length (now s) ⌝ }
     ensures { λ r. ⌜ r ≡ half (now (s .entry)) at ⌝ }
 {
-    wide(s[at]) * 256 + wide(s[at + 1])
+    numbers::word(s[at]) * 256 + numbers::word(s[at + 1])
 }
 
 pub fn word(s: &[u8], at: usize) -> u32
     requires { ⌜ at + 4 ≤ length (now s) ⌝ }
     ensures { λ r. ⌜ r ≡ word (now (s .entry)) at ⌝ }
 {
-    wide(s[at]) * 16777216 + wide(s[at + 1]) * 65536 + wide(s[at + 2]) * 256 + wide(s[at + 3])
+    numbers::word(s[at]) * 16777216
+        + numbers::word(s[at + 1]) * 65536
+        + numbers::word(s[at + 2]) * 256
+        + numbers::word(s[at + 3])
 }
 
 pub fn element(s: &[u8], at: usize, p: u32, q: u32) -> ElementField

@@ -7,7 +7,6 @@ use frame::Frame;
 use frame::Numbers;
 use group::Element;
 use jobs::Reply;
-use libc::STDIN_FILENO;
 use testing::input;
 use testing::print;
 use writer::Job;
@@ -139,10 +138,6 @@ fn run(input: &[u8]) {
 
 fn main() {
     let mut input = input::room();
-    let n = io::read_full(STDIN_FILENO, &mut input);
-    if n == input::LIMIT {
-        print::bad_input();
-        return;
-    }
+    let n = input::read(&mut input);
     run(&input[..n]);
 }

@@ -37,6 +37,13 @@ put-rest a l r h =
     let past : drop (length l - a) (drop a l) ≡ [] = drop-of-length-le (drop a l) {i = length l - a} (simp length-drop (omega arith)) in
     rw (past, append-nil)
 
+-- a list of two is the first and the second
+pub two-of : (l : List ℕ) → length l ≡ 2 → getD l 0 0 ∷ getD l 1 0 ∷ [] ≡ l
+two-of [] e = absurd (omega arith)
+two-of (a ∷ []) e = absurd (omega arith)
+two-of (a ∷ b ∷ []) e = refl
+two-of (a ∷ b ∷ c ∷ l) e = absurd (omega arith)
+
 -- o's front is w, and b is written at the front of what is left: `written b` of the part that starts where w ends, put back
 pub more : (w b o l r : List ℕ) (a : ℕ) → length w ≡ a → l ≡ written w o → r ≡ written b (midOf a (length l - a) l) → putMid a (length l - a) l r ≡ written (w ++ b) o
 unfolding written

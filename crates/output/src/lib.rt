@@ -6,12 +6,12 @@ ghost use lib.ListN.{length};
 ghost use Rattle.rules.specs.Bytes.{bytes2, bytes4};
 ghost use Rattle.output.specs.Written.{written};
 
-pub fn put_two(out: &mut [u8], first: u8, second: u8)
+pub fn put_two(out: &mut [u8], two: [u8; 2])
     requires { ⌜ 2 ≤ length (now out) ⌝ }
-    ensures { λ _. ⌜ now (out .exit) ≡ written (first ∷ second ∷ []) (now (out .entry)) ⌝ }
+    ensures { λ _. ⌜ now (out .exit) ≡ written two (now (out .entry)) ⌝ }
 {
-    out[0] = first;
-    out[1] = second;
+    out[0] = two[0];
+    out[1] = two[1];
 }
 
 pub fn put_half(out: &mut [u8], x: u32)

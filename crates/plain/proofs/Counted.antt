@@ -9,30 +9,17 @@ use native.Mathlib.Numerals.{add-one}
 use native.Mathlib.Omega.{arith}
 use borrow.Author.Tests.{eq-eqb}
 use lib.Dec.{eqb}
-use lib.ListN.{length, getD, set, take, replicate, length-append, length-replicate, take-append-drop}
+use lib.ListN.{length, getD, set, take, replicate, length-append, length-replicate}
 use lib.Seq.{length-take-le, take-suc, take-at, drop-at}
 use Rattle.rules.specs.Records.{roundAt, recordLength, sheetLength}
 use Rattle.rules.specs.Count.{Standing, next, ended, closes, majority, countsOf, countFrom, plainCount, table}
+use Rattle.rules.proofs.Lists.{length-table}
 use Rattle.jobs.specs.Job.{roundDraws, recordDraws}
 use Rattle.count.specs.declared.Count.{Count}
 use Rattle.count.specs.declared.Gone.{Gone}
 use Rattle.count.specs.State.{standingOf, listOf, Listed}
 use Rattle.rules.specs.Answers.{padded}
 use Rattle.plain.proofs.Lists.{pad-more}
-
-length-rankings : (k : ℕ) (f : ℕ → List ℕ) → length (table k f) ≡ k
-unfolding table
-length-rankings zero f = refl
-length-rankings (suc k) f = simp length-append (omega (arith, length-rankings k f))
-
-or-first : (a b : Bool) → a ≡ true → (a || b) ≡ true
-or-first true b e = refl
-or-first false b e = absurd (true≢false (sym e))
-
-pub not-last : (n : ℕ) (st : Standing) (cs : List ℕ) (K m : ℕ) → closes n st cs K ≡ false → length (st .sheets) ≡ m → m + 1 ≡ n - 1 → ⊥
-unfolding closes
-not-last n st cs K m h e t =
-    true≢false (sym (or-first (eqb (length (st .sheets) + 1) (n - 1)) (majority n st cs K) (eq-eqb (length (st .sheets) + 1) (n - 1) (rw e t))) ∙ h)
 
 module _ (n k : ℕ) (f : ℕ → List ℕ) (c : Count) (m : ℕ) (cs : List ℕ) (low : m < n)
     (w : plainCount n (table k f) ≡ countFrom n (table k f) (n - m) (standingOf n c))
@@ -43,26 +30,19 @@ module _ (n k : ℕ) (f : ℕ → List ℕ) (c : Count) (m : ℕ) (cs : List ℕ
   pub count-goes : closes n (standingOf n c) cs k ≡ false →
       plainCount n (table k f) ≡ countFrom n (table k f) (n - (m + 1)) (next n (standingOf n c) cs)
   unfolding countFrom standingOf
-  count-goes h = w ∙ rw (fuel, ← e, length-rankings k f, h)
+  count-goes h = w ∙ rw (fuel, ← e, length-table k f, h)
 
   pub count-ends : closes n (standingOf n c) cs k ≡ true → plainCount n (table k f) ≡ ended n (standingOf n c) cs
   unfolding countFrom standingOf
-  count-ends h = w ∙ rw (fuel, ← e, length-rankings k f, h)
+  count-ends h = w ∙ rw (fuel, ← e, length-table k f, h)
 
 pub draws-more : (n K m d r : ℕ) → d ≡ roundDraws n K m → r ≡ recordDraws n m → d + K * r ≡ roundDraws n K (m + 1)
 unfolding roundDraws
 draws-more n K m d r e h = rw (add-one, e, h)
 
-pub length-more : (n K m d r : ℕ) → d ≡ roundAt n K m → r ≡ recordLength n m → d + (K * r + 4 + 6 * n) ≡ roundAt n K (m + 1)
-unfolding roundAt sheetLength
-length-more n K m d r e h = rw (add-one, e, h) (omega arith)
-
--- those gone out, with zeros up to 8
-pub padded-order : (g : Gone) → Listed g → g .order ≡ padded (listOf g)
-unfolding padded
-padded-order g l =
-    let e : length (listOf g) ≡ g .outs = length-take-le (g .outs) (g .order) (omega (arith, l .few, l .order-long)) in
-    sym (take-append-drop (g .outs) (g .order)) ∙ rw (l .zeros, e)
+pub length-more : (n K m d r s : ℕ) → d ≡ roundAt n K m → r ≡ recordLength n m → s ≡ sheetLength n → d + (K * r + s) ≡ roundAt n K (m + 1)
+unfolding roundAt
+length-more n K m d r s e h t = rw (add-one, e, h, t) (omega arith)
 
 -- the first of an order, one by one
 pub first-more : (order : List ℕ) (i : ℕ) → i < 8 → length order ≡ 8 → set (padded (take i order)) i (getD order i 0) ≡ padded (take (i + 1) order)

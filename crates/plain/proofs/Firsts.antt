@@ -3,18 +3,18 @@ use Prim.Native.Nat.{ℕ, zero, suc, _+_, _-_, _≤_, _<_}
 use mathlib.Core.Path.{_≡_, refl, sym, ap, _∙_}
 use mathlib.Core.Bool.{Bool, true, false, cond, not}
 use mathlib.Core.List.{List, [], _∷_, _++_}
-use mathlib.Core.Logic.{⊎-elim}
-use native.Mathlib.Nat.{add-zero, zero-add, suc-add, add-assoc, eq-or-lt-of-le}
+use native.Mathlib.Nat.{add-zero, zero-add, suc-add, add-assoc}
 use native.Mathlib.Numerals.{add-one}
 use native.Mathlib.Omega.{arith}
 use borrow.Author.Tests.{eq-eqb, ne-eqb, eqb-true, eqb-false, lt-leb, le-leb}
 use lib.Dec.{eqb}
-use lib.ListN.{length, getD, set, take, drop, length-append, length-take, length-drop, drop-of-length-le, List·getD-append}
-use lib.Seq.{drop-cons, getD-take, getD-drop, getD-set-same, getD-set-other, ext-getD, getD-at}
+use lib.ListN.{length, getD, set, take, drop, length-take, length-drop, drop-of-length-le}
+use lib.Seq.{drop-cons, getD-take, getD-drop, getD-set-same, getD-set-other, ext-getD}
 use Rattle.numbers.proofs.Tests.{by-cases}
 use Rattle.rules.specs.Bytes.{part}
 use Rattle.numbers.specs.Below.{allBelow}
 use Rattle.rules.specs.Count.{member, isRanking, stillIn, firstIn, votesFor, countsOf, table}
+use Rattle.rules.proofs.Lists.{length-table, table-at}
 use Rattle.jobs.specs.Job.{Job, rankingOf}
 use Rattle.jobs.specs.Write.{firstBad}
 
@@ -111,19 +111,6 @@ pub votes-none : (n : ℕ) (gone : List ℕ) (f : ℕ → List ℕ) (c : ℕ) �
 unfolding table votesFor
 votes-none n gone f c = refl
 
-length-table : (n : ℕ) (f : ℕ → ℕ) → length (table n f) ≡ n
-unfolding table
-length-table zero f = refl
-length-table (suc n) f = simp length-append (omega (arith, length-table n f))
-
-table-at : (n i : ℕ) (f : ℕ → ℕ) → i < n → getD (table n f) i 0 ≡ f i
-unfolding table
-table-at zero i f h = absurd (omega arith)
-table-at (suc n) i f h =
-    ⊎-elim (λ (e : i ≡ n). rw e (getD-at (table n f) (f n) [] 0 n (length-table n f)))
-    (λ (l : i < n). List·getD-append (table n f) (f n ∷ []) 0 i (omega (arith, length-table n f)) ∙ table-at n i f l)
-    (eq-or-lt-of-le {n = i} {m = n} (omega arith))
-
 pub counts-are : (counts : List ℕ) (n : ℕ) (gone : List ℕ) (rs : List (List ℕ)) → length counts ≡ 8 → n ≤ 8 →
     ((i : ℕ) → i < 8 → getD counts i 0 ≡ votesFor n gone rs (suc i)) → take n counts ≡ countsOf n rs gone
 unfolding countsOf
@@ -131,7 +118,7 @@ counts-are counts n gone rs e h w =
     let l : length (take n counts) ≡ n = simp length-take (omega arith) in
     ext-getD 0 (take n counts) (table n (λ i. votesFor n gone rs (suc i))) (l ∙ sym (length-table n _)) (λ i k.
     let b : i < n = omega arith in
-    getD-take n counts i 0 b ∙ w i (omega arith) ∙ sym (table-at n i (λ i. votesFor n gone rs (suc i)) b))
+    getD-take n counts i 0 b ∙ w i (omega arith) ∙ sym (table-at n (λ i. votesFor n gone rs (suc i)) 0 i b))
 
 pub one : (t : Bool) → cond t 1 0 ≤ 1
 one true = omega arith

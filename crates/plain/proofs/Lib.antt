@@ -2,3 +2,4 @@ pub mod Lists
 pub mod Firsts
 pub mod Sizes
 pub mod Counted
+pub mod Sheets

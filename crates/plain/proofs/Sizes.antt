@@ -1,9 +1,8 @@
--- Sizes of records and their draws. Assumes nothing.
+-- The draws of records. Assumes nothing.
 use Prim.Native.Nat.{ℕ, zero, suc, _+_, _*_, _-_, _≤_}
 use mathlib.Core.Path.{_≡_, refl}
 use native.Mathlib.Nat.{mul-le-mul-right}
 use native.Mathlib.Omega.{arith}
-use Rattle.rules.specs.Records.{recordLength, ballotLength, shiftLength}
 use Rattle.jobs.specs.Job.{recordDraws}
 
 pub draws-first : (n m : ℕ) → m ≡ 0 → recordDraws n m ≡ 4 * (n * n) + 2 * n
@@ -14,15 +13,6 @@ pub draws-later : (n m : ℕ) → (m ≡ 0 → ⊥) → recordDraws n m ≡ (n -
 unfolding recordDraws
 draws-later n zero h = absurd (h refl)
 draws-later n (suc m) h = refl
-
-pub length-first : (n m : ℕ) → m ≡ 0 → recordLength n m ≡ 4 + 40 * (n * n) + 32 * n
-unfolding recordLength ballotLength
-length-first n m e = rw e
-
-pub length-later : (n m : ℕ) → (m ≡ 0 → ⊥) → recordLength n m ≡ 4 + 8 * ((n - m) * n) + (n - m + 1) * (28 + 12 * ((n - m) * n))
-unfolding recordLength shiftLength
-length-later n zero h = absurd (h refl)
-length-later n (suc m) h = refl
 
 -- a later round has few rows and pairs, and at most 8 branches
 pub record Later (n m branch : ℕ) : Type 0 where

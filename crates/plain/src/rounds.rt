@@ -1,20 +1,18 @@
 // The rounds of the plain count, and the draws and the bytes that they come to.
 use crate::votes;
 use count::Count;
+use count::Ended;
 ghost use mathlib.Core.Path.{_≡_};
 ghost use Prim.Native.Nat.{_+_, _*_, _≤_, _<_};
 ghost use lib.ListN.{length};
 ghost use Rattle.rules.specs.Bytes.{part};
-ghost use Rattle.rules.specs.Records.{recordLength};
+ghost use Rattle.rules.specs.Records.{roundAt};
 ghost use Rattle.rules.specs.Count.{plainCount, table};
-ghost use Rattle.jobs.specs.Job.{recordDraws};
-ghost use Rattle.plain.specs.Measures.{Measured};
+ghost use Rattle.jobs.specs.Job.{recordDraws, roundDraws};
+ghost use Rattle.count.specs.State.{resultOf, Kept};
 
-// The result of the plain count, the draws that the board needs and its length.
+// The draws that a board needs, and its length.
 pub struct Measure {
-    pub rounds: usize,
-    pub winner: usize,
-    pub order: [u8; 8],
     pub needed: usize,
     pub length: usize,
 }
@@ -31,45 +29,33 @@ pub fn record_draws(n: usize, m: usize) -> usize
     r * n + (r + 1) * (2 + r * n) + r
 }
 
-// Its length.
-pub fn record_length(n: usize, m: usize) -> usize
-    requires { ⌜ (n ≤ 8) × (m < n) ⌝ }
-    ensures { λ r. ⌜ (r ≡ recordLength n m) × (r ≤ 10000) ⌝ }
-{
-    if m == 0 {
-        return 4 + 40 * (n * n) + 32 * n;
-    }
-    let r = n - m;
-    4 + 8 * (r * n) + (r + 1) * (28 + 12 * (r * n))
-}
-
-// The plain count of k rankings, round by round.
-pub fn measure_of(rankings: &[u8], n: usize, k: usize) -> Measure
+// The plain count of k rankings: the sheet of every round, the order of going out and the winner.
+pub fn count(rankings: &[u8], n: usize, k: usize) -> Ended
     requires { ⌜ (2 ≤ n) × (n ≤ 8) × (k ≤ 1000) × (k * n ≤ length (now rankings)) ⌝ }
-    ensures { λ r. ⌜ Measured n k (plainCount n (table k (λ b. part (now (rankings .entry)) (b * n) n))) r ⌝ }
+    ensures { λ r. ⌜ (resultOf n r ≡ plainCount n (table k (λ b. part (now (rankings .entry)) (b * n) n))) × Kept (r .count) × (r .count .gone .outs + 2 ≤ n) ⌝ }
 {
     let mut count = Count::new();
-    let mut rounds = 0;
-    let mut needed = 0;
-    let mut length = 54;
     loop {
         let gone = count.gone;
         let sheet = votes::tally(rankings, n, k, gone);
-        needed += k * record_draws(n, rounds);
-        length += k * record_length(n, rounds) + 4 + 6 * n;
-        rounds += 1;
         if count.closes(sheet, n, k as u32) {
-            let winner = count.wins(sheet, n);
-            let order = gone.order;
-            return Measure {
-                rounds,
-                winner,
-                order,
-                needed,
-                length,
-            };
+            return count.close(sheet, n);
         }
-        let next = count.sheet(sheet, count.leaves(sheet, n));
+        let next = count.next(sheet, count.leaves(sheet, n));
         count = next;
     }
+}
+
+// The draws that a board of so many rounds needs, and its length.
+pub fn measure_of(n: usize, k: usize, rounds: usize) -> Measure
+    requires { ⌜ (n ≤ 8) × (rounds ≤ n) × (k ≤ 1000) ⌝ }
+    ensures { λ r. ⌜ (r .needed ≡ roundDraws n k rounds) × (r .length ≡ roundAt n k rounds) × (r .needed ≤ 10000000) ⌝ }
+{
+    let mut needed = 0;
+    let mut length = layout::HEADER_LENGTH;
+    for m in 0..rounds {
+        needed += k * record_draws(n, m);
+        length += k * layout::record_length(n, m) + layout::sheet_length(n);
+    }
+    Measure { needed, length }
 }

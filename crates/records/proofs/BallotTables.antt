@@ -1,9 +1,9 @@
 -- The tests of the BA and SH records, at the place where the record starts. Assumes nothing.
 use Prim.Native.Nat.{ℕ, suc, _+_, _*_, _-_, _/_, _%_, _<_}
-use mathlib.Core.Path.{_≡_, sym, _∙_}
-use mathlib.Core.Bool.{_&&_, and-assoc}
+use mathlib.Core.Path.{_≡_, sym, ap, _∙_}
+use mathlib.Core.Bool.{Bool, _&&_, and-assoc}
 use mathlib.Core.List.{List}
-use native.Mathlib.Nat.{mul-add-div-right, mul-add-mod-self-right, mod-eq-of-lt, div-eq-of-lt, add-zero}
+use native.Mathlib.Nat.{mul-add-div-right, mul-add-mod-self-right, mod-eq-of-lt, div-eq-of-lt, add-zero, mul-one}
 use native.Mathlib.Omega.{arith}
 use Rattle.numbers.specs.Below.{allBelow}
 use Rattle.numbers.proofs.Tests.{all-grid, all-same, all-add}
@@ -14,11 +14,10 @@ use Rattle.rules.specs.Records.{BA, SH, recordAt, recordLength, ballotLength, s
 use Rattle.rules.specs.Proofs.{proofFields}
 use Rattle.rules.specs.Claims.{matrixAt, entryClaim, rowClaim, columnClaim}
 use Rattle.rules.specs.Check.{recordFault, ballotFields, ballotProofs, shiftFields, shiftHolds, pairsGood}
-use Rattle.statements.specs.Walks.{pairFields}
+use Rattle.statements.specs.Walks.{pairFields, branchFields}
 use Rattle.statements.proofs.Lines.{by-row, by-column-of, all-lines}
 use Rattle.records.specs.declared.Head.{Head}
 use Rattle.records.specs.Heads.{headOf}
-use Rattle.records.specs.Sizes.{ballotSize, shiftSize}
 use Rattle.records.proofs.Framing.{FiveTests}
 use Rattle.records.specs.Parts.{ballotFieldsAt, proofAt, entryGood, lineGood, ballotProofsAt, shiftFieldsAt, shiftProofAt}
 
@@ -28,16 +27,46 @@ row-of n i j l = mul-add-div-right (omega arith) i j ∙ rw (div-eq-of-lt l) (ad
 column-of : (n i j : ℕ) → j < n → (i * n + j) % n ≡ j
 column-of n i j l = mul-add-mod-self-right i n j ∙ mod-eq-of-lt l
 
+-- proofs of one shape, one after another, are branches one after another
+module _ (s : List ℕ) (at statements p q : ℕ) where
+  abbrev branch : ℕ → Bool
+  branch l = branchFields s (at + l * (4 + 12 * statements)) statements p q
+
+  joined : (count branches : ℕ) → allBelow count (λ i. proofFields s (at + branches * (4 + 12 * statements) * i) branches statements p q) ≡ proofFields s at (count * branches) statements p q
+  unfolding proofFields
+  joined count branches =
+      all-same count _ (λ i. allBelow branches (λ l. branch (i * branches + l)))
+      (λ i _. all-same branches _ (λ l. branch (i * branches + l)) (λ l _. ap (λ (x : ℕ). branchFields s x statements p q) (omega arith)))
+      ∙ all-grid count branches branch
+
+  behind : (a b next : ℕ) → next ≡ at + a * (4 + 12 * statements) →
+      (proofFields s at a statements p q && proofFields s next b statements p q) ≡ proofFields s at (a + b) statements p q
+  unfolding proofFields
+  behind a b next e =
+      ap (λ (t : Bool). allBelow a branch && t) (all-same b _ (λ l. branch (a + l)) (λ l _. ap (λ (x : ℕ). branchFields s x statements p q) (rw e (omega arith))))
+      ∙ sym (all-add a b branch)
+
 module _ (s : List ℕ) (h : Head) (k at : ℕ) (e : at ≡ recordAt (h .n) (h .k) 0 k) where
   fields-are : ballotFields s (headOf s h) k ≡ ballotFieldsAt s (h .n) (h .setup .group .p) (h .setup .group .q) at
   unfolding ballotFields pairsGood matrixAt
   fields-are =
+      let n = h .n in
+      let p = h .setup .group .p in
+      let q = h .setup .group .q in
+      let first : ℕ = at + 4 + 8 * (n * n) in
+      let next : ℕ = at + 4 + 40 * (n * n) in
+      let line : ℕ → Bool = λ t. proofFields s (next + 16 * t) 1 1 p q in
+      let lines : (allBelow n line && allBelow n (λ j. line (n + j))) ≡ proofFields s next (n + n) 1 p q =
+      sym (all-add n n line) ∙ joined s next 1 p q (n + n) 1 ∙ rw (mul-one (n + n)) in
       rw (
         ← e,
-        all-grid (h .n) (h .n) (λ t. pairFields s (at + 4 + 8 * t) (h .setup .group .p) (h .setup .group .q)),
-        all-grid (h .n) (h .n) (λ t. proofFields s (at + 4 + 8 * (h .n * h .n) + 32 * t) 2 1 (h .setup .group .p) (h .setup .group .q)),
-        all-add (h .n) (h .n) (λ t. proofFields s (at + 4 + 40 * (h .n * h .n) + 16 * t) 1 1 (h .setup .group .p) (h .setup .group .q)),
-        and-assoc,
+        all-grid n n (λ t. pairFields s (at + 4 + 8 * t) p q),
+        all-grid n n (λ t. proofFields s (first + 32 * t) 2 1 p q),
+        joined s first 1 p q (n * n) 2,
+        and-assoc (allBelow (n * n) (λ t. pairFields s (at + 4 + 8 * t) p q) && proofFields s first (n * n * 2) 1 p q) (allBelow n line) _,
+        lines,
+        and-assoc (allBelow (n * n) (λ t. pairFields s (at + 4 + 8 * t) p q)) (proofFields s first (n * n * 2) 1 p q) _,
+        behind s first 1 p q (n * n * 2) (n + n) next (omega arith),
       )
 
   entries-are :
@@ -63,9 +92,9 @@ module _ (s : List ℕ) (h : Head) (k at : ℕ) (e : at ≡ recordAt (h .n) (h .
   proofs-are = rw (← e, entries-are, and-assoc, lines-are)
 
   pub ballot-table : (a : ℕ) →
-      FiveTests s at (ballotSize (h .n)) BA (half s (at + 2)) (k + 1) (ballotFieldsAt s (h .n) (h .setup .group .p) (h .setup .group .q) at) (ballotProofsAt s h at)
+      FiveTests s at (ballotLength (h .n)) BA (half s (at + 2)) (k + 1) (ballotFieldsAt s (h .n) (h .setup .group .p) (h .setup .group .q) at) (ballotProofsAt s h at)
       (recordFault sha256 s (headOf s h) a 0 k)
-  unfolding recordFault recordLength ballotLength
+  unfolding recordFault recordLength
   ballot-table a = record { table = rw (fields-are, proofs-are, ← e) }
 
 module _ (s : List ℕ) (h : Head) (m k a at before rows : ℕ)
@@ -79,7 +108,7 @@ module _ (s : List ℕ) (h : Head) (m k a at before rows : ℕ)
   shift-proof-is = rw (← e, ← eb, ← er)
 
   pub shift-table :
-      FiveTests s at (shiftSize (h .n) rows) SH (half s (at + 2)) (k + 1) (shiftFieldsAt s (h .n) (h .setup .group .p) (h .setup .group .q) at rows)
+      FiveTests s at (shiftLength (h .n) rows) SH (half s (at + 2)) (k + 1) (shiftFieldsAt s (h .n) (h .setup .group .p) (h .setup .group .q) at rows)
       (shiftProofAt s h before at rows (a - 1)) (recordFault sha256 s (headOf s h) a (suc m) k)
-  unfolding recordFault recordLength shiftLength
+  unfolding recordFault recordLength
   shift-table = record { table = rw (shift-fields-are, shift-proof-is, ← e, ← er) }

@@ -15,7 +15,7 @@ place-next n K m k = omega arith
 
 -- a record holds its pairs
 pub holds-pairs : (n m : ℕ) → 4 + 8 * ((n - m) * n) ≤ recordLength n m
-unfolding recordLength ballotLength shiftLength
+unfolding recordLength
 holds-pairs n zero = let e : n - 0 ≡ n = omega arith in rw e (omega arith)
 holds-pairs n (suc m) = omega arith
 

@@ -9,13 +9,14 @@ use lib.Seq.{getD-set-same, getD-set-other}
 use borrow.Author.Count.{below-more}
 use borrow.Author.Tests.{eq-eqb, ne-eqb}
 use Rattle.group.specs.declared.Exponent.{Exponent}
-use Rattle.rules.specs.Count.{leaves, wins, closes}
+use Rattle.rules.specs.Count.{Result, ended, leaves, closes}
 use Rattle.rules.specs.Check.{firstFault}
 use Rattle.rules.specs.Answers.{refusalNumber}
 use Rattle.rules.specs.declared.Refusal.{Refusal}
 use Rattle.rules.specs.declared.Refusal.the-variants as R
 use Rattle.count.specs.declared.Count.{Count}
-use Rattle.count.specs.State.{standingOf, wentOut, Kept}
+use Rattle.count.specs.declared.Ended.{Ended}
+use Rattle.count.specs.State.{standingOf, resultOf, wentOut, Kept}
 use Rattle.records.specs.declared.sheet.Outcome.the-variants.{Refused, Closed, Open}
 use Rattle.records.specs.Faults.{Stepped, outFault, exponentOf}
 
@@ -47,10 +48,10 @@ module _ (n k : ℕ) (c : Count) (cs : List ℕ) (out : ℕ) where
   unfolding Stepped firstFault
   wrong-out d e x = (rw (← e, ne-eqb out d x), refl)
 
-  pub closed : closes n (standingOf n c) cs k ≡ true → out ≡ 0 → (w : ℕ) → w ≡ wins n (standingOf n c) cs →
-      Stepped n k c cs (outFault n k c cs out) (Closed w) c
-  unfolding Stepped firstFault
-  closed e x w ew = (rw (e, eq-eqb out 0 x), e, ew, refl)
+  pub closed : closes n (standingOf n c) cs k ≡ true → out ≡ 0 → (r : Ended) → r .count .gone ≡ c .gone → Kept (r .count) → resultOf n r ≡ ended n (standingOf n c) cs →
+      Stepped n k c cs (outFault n k c cs out) (Closed (r .winner)) (r .count)
+  unfolding Stepped firstFault resultOf
+  closed e x r gone kept er = (rw (e, eq-eqb out 0 x), e, ap (λ (y : Result). y .winner) er, gone, kept, er)
 
   pub opened : closes n (standingOf n c) cs k ≡ false → (a : ℕ) → a ≡ leaves n (standingOf n c) cs → a ≤ n → out ≡ a →
       (after : Count) → after .gone .outs ≡ c .gone .outs + 1 → Kept after → standingOf n after ≡ wentOut (standingOf n c) a cs →

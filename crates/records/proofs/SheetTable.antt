@@ -26,7 +26,6 @@ use Rattle.statements.proofs.PlainClaims.{prod-words}
 use Rattle.records.specs.declared.Head.{Head}
 use Rattle.records.specs.declared.Fault.the-variants.{Sound, Refused}
 use Rattle.records.specs.Heads.{headOf}
-use Rattle.records.specs.Sizes.{sheetSize}
 use Rattle.records.specs.Faults.{Framed, Counted, exponentOf}
 use Rattle.records.specs.Parts.{countGood, tallyAt}
 
@@ -96,20 +95,20 @@ module _ (s : List ℕ) (h : Head) (m at : ℕ) (e : at ≡ recordAt (h .n) (h .
   -- ---- the whole record; d: what its out field is to hold
   module _ (d : ℕ) where
     sheet-is : sheetFault s (headOf s h) m d
-        ≡ firstFault ((leb (at + sheetSize (h .n)) (length s) orElse 1) ∷ (hasMark s at RT orElse 2) ∷ (eqb (getD s (at + 2) 0) (m + 1) orElse 6)
+        ≡ firstFault ((leb (at + sheetLength (h .n)) (length s) orElse 1) ∷ (hasMark s at RT orElse 2) ∷ (eqb (getD s (at + 2) 0) (m + 1) orElse 6)
         ∷ (sheetFields s (headOf s h) m (h .n) ++ ((tallies s (headOf s h) m orElse 10) ∷ (eqb (getD s (at + 3) 0) d orElse 11) ∷ [])))
-    unfolding sheetFault sheetLength
+    unfolding sheetFault
     sheet-is = rw (← e)
 
-    pub wrong-frame : (w : Refusal) → Framed s at (sheetSize (h .n)) RT (getD s (at + 2) 0) (m + 1) (Refused w) → refusalNumber w ≡ sheetFault s (headOf s h) m d
+    pub wrong-frame : (w : Refusal) → Framed s at (sheetLength (h .n)) RT (getD s (at + 2) 0) (m + 1) (Refused w) → refusalNumber w ≡ sheetFault s (headOf s h) m d
     unfolding Framed
     wrong-frame w f = sym (sheet-is ∙ f _)
 
-    module _ (f : Framed s at (sheetSize (h .n)) RT (getD s (at + 2) 0) (m + 1) Sound) where
+    module _ (f : Framed s at (sheetLength (h .n)) RT (getD s (at + 2) 0) (m + 1) Sound) where
       in-frame : sheetFault s (headOf s h) m d
           ≡ firstFault (sheetFields s (headOf s h) m (h .n) ++ ((tallies s (headOf s h) m orElse 10) ∷ (eqb (getD s (at + 3) 0) d orElse 11) ∷ []))
       unfolding Framed firstFault
-      in-frame = sheet-is ∙ rw (le-leb (at + sheetSize (h .n)) (length s) (f .0), f .1, f .2)
+      in-frame = sheet-is ∙ rw (le-leb (at + sheetLength (h .n)) (length s) (f .0), f .1, f .2)
 
       module _ (read : List ℕ) (xs : List Exponent) where
         pub wrong-fields : (w : Refusal) → Counted s h m at read xs (Refused w) → refusalNumber w ≡ sheetFault s (headOf s h) m d

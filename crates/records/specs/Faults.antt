@@ -8,11 +8,11 @@ use lib.ListN.{length, getD, take}
 use Rattle.group.specs.declared.Exponent.{Exponent}
 use Rattle.rules.specs.Bytes.{half, word}
 use Rattle.rules.specs.Records.{hasMark}
-use Rattle.rules.specs.Count.{table, next, leaves, wins, closes}
+use Rattle.rules.specs.Count.{table, next, ended, leaves, wins, closes}
 use Rattle.rules.specs.Check.{Test, firstFault, _orElse_, sheetFields}
 use Rattle.rules.specs.Answers.{refusalNumber}
 use Rattle.count.specs.declared.Count.{Count}
-use Rattle.count.specs.State.{standingOf, Kept}
+use Rattle.count.specs.State.{standingOf, resultOf, Kept}
 use Rattle.records.specs.declared.Fault.{Fault}
 use Rattle.records.specs.declared.Fault.the-variants.{Sound, Refused}
 use Rattle.records.specs.declared.Head.{Head}
@@ -48,10 +48,12 @@ Counted s h m at read xs (Refused w) = (rest : List Test) → firstFault (sheetF
 abbrev pub outFault : (n k : ℕ) → Count → (cs : List ℕ) (out : ℕ) → ℕ
 outFault n k c cs out = firstFault ((eqb out (cond (closes n (standingOf n c) cs k) 0 (leaves n (standingOf n c) cs)) orElse 11) ∷ [])
 
--- what a sheet with these counts and this fault comes to, and the standing count after it
+-- what a sheet with these counts and this fault comes to, and the standing count after it: ended, where the sheet closes the board
 unfoldable pub Stepped : (n k : ℕ) (before : Count) (cs : List ℕ) (fault : ℕ) → Outcome → (after : Count) → Type 0
 Stepped n k c cs f (O.Refused w) after = (f ≡ refusalNumber w) × (after ≡ c)
-Stepped n k c cs f (O.Closed w) after = (f ≡ 0) × (closes n (standingOf n c) cs k ≡ true) × (w ≡ wins n (standingOf n c) cs) × (after ≡ c)
+Stepped n k c cs f (O.Closed w) after =
+    (f ≡ 0) × (closes n (standingOf n c) cs k ≡ true) × (w ≡ wins n (standingOf n c) cs)
+    × (after .gone ≡ c .gone) × Kept after × (resultOf n (record { count = after; winner = w }) ≡ ended n (standingOf n c) cs)
 Stepped n k c cs f (O.Open a) after =
     (f ≡ 0) × (closes n (standingOf n c) cs k ≡ false) × (a ≡ leaves n (standingOf n c) cs) × (a ≤ n)
     × (after .gone .outs ≡ c .gone .outs + 1) × Kept after × (standingOf n after ≡ next n (standingOf n c) cs)

@@ -6,6 +6,7 @@ use lib.ListN.{length}
 use Rattle.sha256.specs.Message.{sha256}
 use Rattle.group.specs.Elements.{parametersOf}
 use Rattle.rules.specs.Bytes.{part}
+use Rattle.rules.specs.Records.{headerLength}
 use Rattle.rules.specs.Check.{Header, header, headerFault}
 use Rattle.rules.specs.Answers.{refusalNumber}
 use Rattle.statements.specs.Values.{Ready}
@@ -22,7 +23,7 @@ pub record Known (s : List ℕ) (h : Head) : Type 0 where
   pub high : h .n ≤ 8
   pub some : 1 ≤ h .k
   pub few : h .k ≤ 1000
-  pub long : 54 ≤ length s
+  pub long : headerLength ≤ length s
 
 -- what opening a board tells
 unfoldable pub Opening : (s : List ℕ) → Opened → Type 0

@@ -1,5 +1,4 @@
 -- What the code's values stand for in the rules, and the parts of a record's tests at the place where the record starts.
 pub mod Heads
-pub mod Sizes
 pub mod Faults
 pub mod Parts

@@ -12,14 +12,16 @@ use Rattle.rules.specs.Bytes.{word, half, part}
 use Rattle.rules.specs.Claims.{matrixAt, entryClaim, rowClaim, columnClaim, shiftClaim}
 use Rattle.rules.specs.Proofs.{Statement, proofFields, proofHolds}
 use Rattle.statements.specs.Lines.{byLine}
-use Rattle.statements.specs.Walks.{pairsFields, proofsFields}
+use Rattle.statements.specs.Walks.{pairsFields}
 use Rattle.records.specs.declared.Head.{Head}
 
--- ---- BA: the row proofs and the column proofs are of one shape
+-- the pairs of a BA or SH record, and the branches of its proofs
+abbrev pub fieldsAt : (s : List ℕ) (at pairs branches statements p q : ℕ) → Bool
+fieldsAt s at pairs branches statements p q = pairsFields s (at + 4) pairs p q && proofFields s (at + 4 + 8 * pairs) branches statements p q
+
+-- ---- BA: its proofs, of one branch or two, are branches of one shape
 abbrev pub ballotFieldsAt : (s : List ℕ) (n p q at : ℕ) → Bool
-ballotFieldsAt s n p q at =
-    pairsFields s (at + 4) (n * n) p q && proofsFields s (at + 4 + 8 * (n * n)) (n * n) 2 1 p q
-    && proofsFields s (at + 4 + 40 * (n * n)) (n + n) 1 1 p q
+ballotFieldsAt s n p q at = fieldsAt s at (n * n) (n * n * 2 + (n + n)) 1 p q
 
 -- a proof under the board's label
 abbrev pub proofAt : (s : List ℕ) (h : Head) (at branches statements : ℕ) → (ℕ → ℕ → Statement) → Bool
@@ -42,7 +44,7 @@ ballotProofsAt s h at = allBelow (h .n * h .n) (entryGood s h at) && allBelow (h
 
 -- ---- SH: a is a column
 abbrev pub shiftFieldsAt : (s : List ℕ) (n p q at rows : ℕ) → Bool
-shiftFieldsAt s n p q at rows = pairsFields s (at + 4) (rows * n) p q && proofFields s (at + 4 + 8 * (rows * n)) (rows + 1) (2 + rows * n) p q
+shiftFieldsAt s n p q at rows = fieldsAt s at (rows * n) (rows + 1) (2 + rows * n) p q
 
 abbrev pub shiftProofAt : (s : List ℕ) (h : Head) (before at rows a : ℕ) → Bool
 shiftProofAt s h before at rows a =

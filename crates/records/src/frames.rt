@@ -2,20 +2,18 @@
 use crate::Fault;
 use rules::Refusal;
 ghost use mathlib.Core.Path.{_≡_};
-ghost use mathlib.Core.List.{[], _∷_};
-ghost use Prim.Native.Nat.{_+_, _*_, _-_, _≤_, _<_};
+ghost use Prim.Native.Nat.{_+_, _≤_, _<_};
 ghost use lib.ListN.{length, getD};
 ghost use Rattle.rules.specs.Bytes.{half};
-ghost use Rattle.rules.specs.Records.{RT, hasMark};
+ghost use Rattle.rules.specs.Records.{RT, hasMark, sheetLength};
 ghost use Rattle.records.specs.Faults.{Framed};
-ghost use Rattle.records.specs.Sizes.{sheetSize};
 
-pub fn has_mark(board: &[u8], at: usize, c: u8, d: u8) -> bool
+pub fn has_mark(board: &[u8], at: usize, mark: [u8; 2]) -> bool
     requires { ⌜ at + 2 ≤ length (now board) ⌝ }
-    ensures { λ r. ⌜ r ≡ hasMark (now (board .entry)) at (c ∷ d ∷ []) ⌝ }
+    ensures { λ r. ⌜ r ≡ hasMark (now (board .entry)) at mark ⌝ }
 {
-    if board[at] == c {
-        board[at + 1] == d
+    if board[at] == mark[0] {
+        board[at + 1] == mark[1]
     } else {
         false
     }
@@ -38,14 +36,14 @@ pub fn byte(board: &[u8], at: usize) -> usize
 }
 
 // A BA or SH record: its length, mark and number.
-pub fn ballot_frame(board: &[u8], at: usize, size: usize, c: u8, d: u8, due: usize) -> Fault
+pub fn ballot_frame(board: &[u8], at: usize, size: usize, mark: [u8; 2], due: usize) -> Fault
     requires { ⌜ (at ≤ length (now board)) × (4 ≤ size) ⌝ }
-    ensures { λ r. ⌜ Framed (now (board .entry)) at size (c ∷ d ∷ []) (half (now (board .entry)) (at + 2)) due r ⌝ }
+    ensures { λ r. ⌜ Framed (now (board .entry)) at size mark (half (now (board .entry)) (at + 2)) due r ⌝ }
 {
     if board.len() - at < size {
         return Fault::Refused(Refusal::Length);
     }
-    if !has_mark(board, at, c, d) {
+    if !has_mark(board, at, mark) {
         return Fault::Refused(Refusal::Mark);
     }
     if number(board, at + 2) != due {
@@ -57,12 +55,12 @@ pub fn ballot_frame(board: &[u8], at: usize, size: usize, c: u8, d: u8, due: usi
 // An RT record: its length, mark and round.
 pub fn sheet_frame(board: &[u8], at: usize, n: usize, round: usize) -> Fault
     requires { ⌜ (at ≤ length (now board)) × (n ≤ 8) ⌝ }
-    ensures { λ r. ⌜ Framed (now (board .entry)) at (sheetSize n) RT (getD (now (board .entry)) (at + 2) 0) round r ⌝ }
+    ensures { λ r. ⌜ Framed (now (board .entry)) at (sheetLength n) RT (getD (now (board .entry)) (at + 2) 0) round r ⌝ }
 {
-    if board.len() - at < 4 + 6 * n {
+    if board.len() - at < layout::sheet_length(n) {
         return Fault::Refused(Refusal::Length);
     }
-    if !has_mark(board, at, 82, 84) {
+    if !has_mark(board, at, layout::RT) {
         return Fault::Refused(Refusal::Mark);
     }
     if byte(board, at + 2) != round {

@@ -8,6 +8,7 @@ ghost use mathlib.Core.Path.{_≡_};
 ghost use Prim.Native.Nat.{_-_, _≤_, _<_};
 ghost use lib.ListN.{length};
 ghost use Rattle.group.specs.Elements.{parametersOf};
+ghost use Rattle.rules.specs.Records.{headerLength};
 ghost use Rattle.rules.specs.Check.{header};
 ghost use Rattle.records.specs.Heads.{Opening};
 
@@ -18,7 +19,7 @@ pub enum Opened {
 
 // p, q, g0 and g1 as the record shows them.
 fn shown(board: &[u8]) -> Group
-    requires { ⌜ 54 ≤ length (now board) ⌝ }
+    requires { ⌜ headerLength ≤ length (now board) ⌝ }
     ensures { λ r. ⌜ parametersOf r ≡ header (now (board .entry)) .group ⌝ }
 {
     Group {
@@ -32,10 +33,10 @@ fn shown(board: &[u8]) -> Group
 pub fn open(board: &[u8]) -> Opened
     ensures { λ r. ⌜ Opening (now (board .entry)) r ⌝ }
 {
-    if board.len() < 54 {
+    if board.len() < layout::HEADER_LENGTH {
         return Opened::Refused(Refusal::Length);
     }
-    if !frames::has_mark(board, 0, 72, 68) {
+    if !frames::has_mark(board, 0, layout::HD) {
         return Opened::Refused(Refusal::Mark);
     }
     let n = frames::byte(board, 2);
@@ -47,7 +48,7 @@ pub fn open(board: &[u8]) -> Opened
     if !parameters::orders_good(n, k, group.p, group.q) {
         return Opened::Refused(Refusal::Orders);
     }
-    if !parameters::generators_good(&board[22..54], board[17], group) {
+    if !parameters::generators_good(&board[22..layout::HEADER_LENGTH], board[17], group) {
         return Opened::Refused(Refusal::Generators);
     }
     Opened::Board(Head {

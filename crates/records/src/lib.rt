@@ -2,6 +2,8 @@
 use rules::Refusal;
 use statements::Setup;
 use statements::claims::Claim;
+use statements::walks;
+use statements::walks::Walk;
 ghost use mathlib.Core.Path.{_≡_};
 ghost use Prim.Native.Nat.{ℕ, _+_, _*_, _≤_, _<_};
 ghost use lib.ListN.{length};
@@ -11,6 +13,7 @@ ghost use Rattle.rules.specs.Bytes.{part};
 ghost use Rattle.rules.specs.Proofs.{proofHolds};
 ghost use Rattle.statements.specs.Claims.{claimOf, Within};
 ghost use Rattle.records.specs.Heads.{Known};
+ghost use Rattle.records.specs.Parts.{fieldsAt};
 
 pub mod ballot;
 mod frames;
@@ -31,6 +34,28 @@ pub struct Head {
     pub setup: Setup,
 }
 
+// The fields of a BA or SH record at a place: its pairs, and the branches of its proofs, one after another.
+fn fields_good(
+    board: &[u8],
+    at: usize,
+    pairs: usize,
+    branches: usize,
+    statements: usize,
+    p: u32,
+    q: u32,
+) -> bool
+    requires { ⌜ at + 4 + 8 * pairs + branches * (4 + 12 * statements) ≤ length (now board) ⌝ }
+    ensures { λ r. ⌜ r ≡ fieldsAt (now (board .entry)) at pairs branches statements p q ⌝ }
+{
+    let Walk::To(proofs) = walks::pairs_fields(board, at + 4, pairs, p, q) else {
+        return false;
+    };
+    let Walk::To(_) = walks::proof_fields(board, proofs, branches, statements, p, q) else {
+        return false;
+    };
+    true
+}
+
 // A proof on the board, under the board's label.
 fn proof_good(
     board: &[u8],
@@ -46,7 +71,7 @@ fn proof_good(
     requires { ⌜ ((l i : ℕ) → l < branches → i < statements → Within (now board) (now inverses) (parametersOf (h .setup .group)) (h .n) claim l i) ⌝ }
     ensures { λ r. ⌜ r ≡ proofHolds (now (board .entry)) at branches statements sha256 (part (now (board .entry)) 22 32) (parametersOf (h .setup .group)) (claimOf (now (board .entry)) (parametersOf (h .setup .group)) (h .n) claim) ⌝ }
 {
-    let label = &board[22..54];
+    let label = &board[22..layout::HEADER_LENGTH];
     statements::proof::proof_holds(
         board,
         label,

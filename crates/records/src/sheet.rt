@@ -12,11 +12,10 @@ ghost use mathlib.Core.Path.{_≡_};
 ghost use Prim.Native.Nat.{_+_, _*_, _≤_, _<_};
 ghost use lib.ListN.{length, getD};
 ghost use Rattle.numbers.specs.Below.{allBelow};
-ghost use Rattle.rules.specs.Records.{recordAt, recordLength, roundAt};
+ghost use Rattle.rules.specs.Records.{recordAt, recordLength, roundAt, sheetLength};
 ghost use Rattle.rules.specs.Check.{counts, sheetFault, due};
 ghost use Rattle.count.specs.State.{standingOf, countsOn, Kept};
 ghost use Rattle.records.specs.Heads.{headOf, Known};
-ghost use Rattle.records.specs.Sizes.{sheetSize};
 ghost use Rattle.records.specs.Faults.{Counted, exponentOf, outFault, Stepped};
 ghost use Rattle.records.specs.Parts.{tallyAt};
 
@@ -27,7 +26,7 @@ pub enum Outcome {
     Open(usize),
 }
 
-// It, and the standing count that the sheet hands back: the next, or the one that it took where no process goes out.
+// It, and the standing count that the sheet hands back: the next; the one that it took, with the sheet kept, where it closes the board; or the one that it took.
 pub struct Step {
     pub outcome: Outcome,
     pub count: Count,
@@ -42,7 +41,7 @@ struct SheetFields {
 
 // The counts and exponents of the sheet of round m, left to right.
 fn sheet_fields(board: &[u8], h: Head, m: usize, at: usize) -> SheetFields
-    requires { ⌜ Known (now board) h × (at ≡ recordAt (h .n) (h .k) m (h .k)) × (at + sheetSize (h .n) ≤ length (now board)) ⌝ }
+    requires { ⌜ Known (now board) h × (at ≡ recordAt (h .n) (h .k) m (h .k)) × (at + sheetLength (h .n) ≤ length (now board)) ⌝ }
     ensures { λ r. ⌜ Counted (now (board .entry)) h m at (r .sheet .counts) (r .s) (r .fault) ⌝ }
 {
     let n = h.n;
@@ -143,9 +142,11 @@ fn counted(count: Count, sheet: Sheet, n: usize, k: usize, out: usize) -> Step
         if out != 0 {
             return refused(Refusal::Out, count);
         }
+        let ended = count.close(sheet, n);
+        let last = ended.count;
         return Step {
-            outcome: Outcome::Closed(count.wins(sheet, n)),
-            count,
+            outcome: Outcome::Closed(ended.winner),
+            count: last,
         };
     }
     let leaves = count.leaves(sheet, n);
@@ -154,7 +155,7 @@ fn counted(count: Count, sheet: Sheet, n: usize, k: usize, out: usize) -> Step
     }
     Step {
         outcome: Outcome::Open(leaves),
-        count: count.sheet(sheet, leaves),
+        count: count.next(sheet, leaves),
     }
 }
 

@@ -5,47 +5,20 @@ use crate::frames;
 use rules::Refusal;
 use statements::claims;
 use statements::claims::Claim;
-use statements::walks;
-use statements::walks::Walk;
 ghost use mathlib.Core.Path.{_≡_};
 ghost use Prim.Native.Nat.{suc, _+_, _*_, _-_, _≤_, _<_};
 ghost use lib.ListN.{length};
 ghost use Rattle.sha256.specs.Message.{sha256};
-ghost use Rattle.rules.specs.Records.{recordAt};
+ghost use Rattle.rules.specs.Records.{recordAt, shiftLength};
 ghost use Rattle.rules.specs.Check.{recordFault};
-ghost use Rattle.statements.specs.Walks.{walkIf};
 ghost use Rattle.records.specs.Heads.{headOf, Known};
-ghost use Rattle.records.specs.Sizes.{shiftSize};
 ghost use Rattle.records.specs.Faults.{faultNumber};
-ghost use Rattle.records.specs.Parts.{shiftFieldsAt, shiftProofAt};
-
-pub fn shift_size(n: usize, rows: usize) -> usize
-    requires { ⌜ (n ≤ 8) × (rows ≤ 8) ⌝ }
-    ensures { λ r. ⌜ r ≡ shiftSize n rows ⌝ }
-{
-    let pairs = rows * n;
-    4 + 8 * pairs + (rows + 1) * (28 + 12 * pairs)
-}
-
-// The pairs and the proof.
-fn shift_fields(board: &[u8], n: usize, p: u32, q: u32, at: usize, rows: usize) -> Walk
-    requires { ⌜ (n ≤ 8) × (rows ≤ 8) × (at + shiftSize n rows ≤ length (now board)) ⌝ }
-    ensures { λ r. ⌜ r ≡ walkIf (shiftFieldsAt (now (board .entry)) n p q at rows) (at + shiftSize n rows) ⌝ }
-{
-    let pairs = rows * n;
-    let Walk::To(proof) = walks::pairs_fields(board, at + 4, pairs, p, q) else {
-        return Walk::Refused;
-    };
-    let Walk::To(end) = walks::proof_fields(board, proof, rows + 1, 2 + pairs, p, q) else {
-        return Walk::Refused;
-    };
-    Walk::To(end)
-}
+ghost use Rattle.records.specs.Parts.{shiftProofAt};
 
 // The proof, that the row with its 1 in column a is struck. The inverses of the matrix before are made once.
 fn shift_proof(board: &[u8], h: Head, before: usize, at: usize, rows: usize, a: usize) -> bool
     requires { ⌜ Known (now board) h × (rows < h .n) × (a < h .n) ⌝ }
-    requires { ⌜ (before + 4 + 8 * ((rows + 1) * h .n) ≤ length (now board)) × (at + shiftSize (h .n) rows ≤ length (now board)) ⌝ }
+    requires { ⌜ (before + 4 + 8 * ((rows + 1) * h .n) ≤ length (now board)) × (at + shiftLength (h .n) rows ≤ length (now board)) ⌝ }
     ensures { λ r. ⌜ r ≡ shiftProofAt (now (board .entry)) h before at rows a ⌝ }
 {
     let n = h.n;
@@ -86,13 +59,14 @@ pub fn shift_fault(
     let n = h.n;
     let group = h.setup.group;
     let rows = n - m - 1;
-    let framed = frames::ballot_frame(board, at, shift_size(n, rows), 83, 72, k + 1);
+    let framed = frames::ballot_frame(board, at, layout::shift_length(n, rows), layout::SH, k + 1);
     if let Fault::Refused(why) = framed {
         return Fault::Refused(why);
     }
-    let Walk::To(_) = shift_fields(board, n, group.p, group.q, at, rows) else {
+    let pairs = rows * n;
+    if !crate::fields_good(board, at, pairs, rows + 1, 2 + pairs, group.p, group.q) {
         return Fault::Refused(Refusal::Field);
-    };
+    }
     if !shift_proof(board, h, before, at, rows, a - 1) {
         return Fault::Refused(Refusal::Proof);
     }

@@ -1,5 +1,5 @@
 -- The process that goes out is one still in; the plain count's rounds only grow.
-use Prim.Native.Nat.{ℕ, zero, suc, _-_, _≤_, _<_}
+use Prim.Native.Nat.{ℕ, zero, suc, _+_, _-_, _≤_, _<_}
 use native.Mathlib.Nat.{eq-or-lt-of-le, le-of-suc-le-suc, not-suc-le-zero, le-refl}
 use native.Mathlib.Omega.{arith}
 use mathlib.Core.Path.{_≡_, refl}
@@ -10,7 +10,8 @@ use lib.Dec.{leb, eqb}
 use lib.ListN.{length, getD, length-append}
 use Rattle.rules.specs.Count.{member, Standing, lowest, leaves, closes, next, countsOf, countFrom}
 use Rattle.rules.proofs.Lists.{pigeonhole}
-use Rattle.numbers.proofs.Tests.{by-cases}
+use borrow.Author.Tests.{eqb-false}
+use Rattle.numbers.proofs.Tests.{by-cases, or-false-left}
 
 -- one of 1 .. i that is still in
 pub record In (gone : List ℕ) (i c : ℕ) : Type 0 where
@@ -41,6 +42,11 @@ module _ (n : ℕ) (st : Standing) (counts : List ℕ) where
 
   pub leaves-in : length (st .gone) < n → In (st .gone) n (leaves n st counts)
   leaves-in l = elim (lowest-in n) [ inl z ↦ absurd (omega (arith, pigeonhole n (st .gone) (z .1))) | inr o ↦ o ]
+
+-- a round that does not close the board is not the last
+pub not-last : (n m : ℕ) (st : Standing) (cs : List ℕ) (K : ℕ) → length (st .sheets) ≡ m → closes n st cs K ≡ false → m + 1 ≡ n - 1 → ⊥
+unfolding closes
+not-last n m st cs K l c e = eqb-false (length (st .sheets) + 1) (n - 1) (or-false-left (eqb (length (st .sheets) + 1) (n - 1)) _ c) (rw l e)
 
 -- ---- the plain count: what it hands back after a standing count
 module _ (n : ℕ) (rankings : List (List ℕ)) where

@@ -25,25 +25,24 @@ hasMark s at mark = eqb (getD s at 0) (getD mark 0 0) && eqb (getD s (at + 1) 0)
 abbrev pub headerLength : ℕ
 headerLength = 54
 
-unfoldable pub ballotLength : (n : ℕ) → ℕ
+abbrev pub ballotLength : (n : ℕ) → ℕ
 ballotLength n = 4 + 40 * (n * n) + 32 * n
 
 -- of R rows
-unfoldable pub shiftLength : (n R : ℕ) → ℕ
+abbrev pub shiftLength : (n R : ℕ) → ℕ
 shiftLength n R = 4 + 8 * (R * n) + (R + 1) * (28 + 12 * (R * n))
 
-unfoldable pub sheetLength : (n : ℕ) → ℕ
+abbrev pub sheetLength : (n : ℕ) → ℕ
 sheetLength n = 4 + 6 * n
 
 -- "A board is HD, K BA numbered 1 to K, RT; each further round is K SH, numbered alike, then RT."
 -- A ballot's record in round m: its length, "R = n−m+1 rows" where rounds are counted from 1
 unfoldable pub recordLength : (n m : ℕ) → ℕ
-unfolding ballotLength shiftLength
 recordLength n zero = ballotLength n
 recordLength n (suc m) = shiftLength n (n - suc m)
 
 unfoldable pub roundAt : (n K m : ℕ) → ℕ
-unfolding recordLength sheetLength
+unfolding recordLength
 roundAt n K zero = headerLength
 roundAt n K (suc m) = roundAt n K m + K * recordLength n m + sheetLength n
 

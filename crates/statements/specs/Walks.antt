@@ -6,8 +6,6 @@ use lib.Dec.{ltb}
 use Rattle.numbers.specs.Below.{allBelow}
 use Rattle.group.specs.Elements.{isElement}
 use Rattle.rules.specs.Bytes.{word}
-use Rattle.rules.specs.Proofs.{proofFields}
-use Rattle.rules.specs.Proofs as said
 use Rattle.statements.specs.declared.walks.Walk.{Walk}
 use Rattle.statements.specs.declared.walks.Walk.the-variants.{To, Refused}
 
@@ -23,12 +21,9 @@ pairFields s at p q = isElement p q (word s at) && isElement p q (word s (at + 4
 abbrev pub pairsFields : (s : List ℕ) (at count p q : ℕ) → Bool
 pairsFields s at count p q = allBelow count (λ i. pairFields s (at + 8 * i) p q)
 
--- the fields of a statement, of a branch, and of proofs of one shape one after another
+-- the fields of a statement, and of a branch
 abbrev pub statementFields : (s : List ℕ) (at p q : ℕ) → Bool
 statementFields s at p q = pairFields s at p q && ltb (word s (at + 8)) q
 
 abbrev pub branchFields : (s : List ℕ) (at statements p q : ℕ) → Bool
 branchFields s at statements p q = ltb (word s at) q && allBelow statements (λ i. statementFields s (at + 4 + 12 * i) p q)
-
-abbrev pub proofsFields : (s : List ℕ) (at count branches statements p q : ℕ) → Bool
-proofsFields s at count branches statements p q = allBelow count (λ i. proofFields s (at + branches * (4 + 12 * statements) * i) branches statements p q)

@@ -5,7 +5,7 @@ ghost use mathlib.Core.Path.{_≡_};
 ghost use Prim.Native.Nat.{_+_, _*_, _≤_};
 ghost use lib.ListN.{length};
 ghost use Rattle.rules.specs.Proofs.{proofFields};
-ghost use Rattle.statements.specs.Walks.{walkIf, pairFields, pairsFields, statementFields, branchFields, proofsFields};
+ghost use Rattle.statements.specs.Walks.{walkIf, pairFields, pairsFields, statementFields, branchFields};
 
 // The place after the fields walked, or that one was refused.
 pub enum Walk {
@@ -74,7 +74,7 @@ fn branch_fields(board: &[u8], at: usize, statements: usize, p: u32, q: u32) -> 
     Walk::To(place)
 }
 
-// The branches of a proof.
+// The branches of a proof, or of proofs one after another.
 pub fn proof_fields(
     board: &[u8],
     at: usize,
@@ -89,29 +89,6 @@ pub fn proof_fields(
     let mut place = at;
     for i in 0..branches {
         let Walk::To(next) = branch_fields(board, place, statements, p, q) else {
-            return Walk::Refused;
-        };
-        place = next;
-    }
-    Walk::To(place)
-}
-
-// Proofs of one shape, one after another.
-pub fn proofs_fields(
-    board: &[u8],
-    at: usize,
-    count: usize,
-    branches: usize,
-    statements: usize,
-    p: u32,
-    q: u32,
-) -> Walk
-    requires { ⌜ at + branches * (4 + 12 * statements) * count ≤ length (now board) ⌝ }
-    ensures { λ r. ⌜ r ≡ walkIf (proofsFields (now (board .entry)) at count branches statements p q) (at + branches * (4 + 12 * statements) * count) ⌝ }
-{
-    let mut place = at;
-    for i in 0..count {
-        let Walk::To(next) = proof_fields(board, place, branches, statements, p, q) else {
             return Walk::Refused;
         };
         place = next;

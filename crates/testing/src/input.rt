@@ -1,6 +1,8 @@
 // Input of the test programs: numbers of 4 bytes, high byte first; a piece is its length and then its bytes.
+use crate::print;
+use libc::STDIN_FILENO;
 ghost use mathlib.Core.Path.{_≡_};
-ghost use Prim.Native.Nat.{ℕ, _<_};
+ghost use Prim.Native.Nat.{ℕ, _≤_, _<_};
 ghost use lib.ListN.{length, getD};
 ghost use Rattle.testing.specs.Input.{pieceAt};
 
@@ -12,6 +14,18 @@ pub fn room() -> [u8; LIMIT]
     ensures { λ r. ⌜ (2097152 ≡ length r) × ((i : ℕ) → i < 2097152 → getD r i 0 ≡ 0) ⌝ }
 {
     [0; LIMIT]
+}
+
+// Standard input, read to the front of a room: its length. An input that fills the room is bad, and counts as empty.
+pub fn read(room: &mut [u8]) -> usize
+    ensures { λ r. ⌜ r ≤ length (now (room .exit)) ⌝ }
+{
+    let n = io::read_full(STDIN_FILENO, room);
+    if n == room.len() {
+        print::bad_input();
+        return 0;
+    }
+    n
 }
 
 pub enum Piece {

@@ -1,17 +1,18 @@
 -- The board that is written is the job's. Assumes nothing.
-use Prim.Native.Nat.{ℕ, _*_, _-_, _≤_, _<_}
+use Prim.Native.Nat.{ℕ, _+_, _*_, _≤_, _<_}
 use mathlib.Core.Path.{_≡_, sym, ap, subst, _∙_}
 use mathlib.Core.Bool.{and-eq-true-iff, true}
 use mathlib.Core.List.{List, _++_}
 use native.Mathlib.Omega.{arith}
 use borrow.Author.Tests.{eqb-true, leb-true}
 use lib.Dec.{leb, eqb}
-use lib.ListN.{length, take, drop, length-append}
+use lib.ListN.{length, drop, length-append}
 use Rattle.numbers.specs.Below.{blocks}
 use Rattle.sha256.specs.Message.{sha256}
 use Rattle.group.specs.Elements.{Parameters}
 use Rattle.rules.specs.Answers.{padded}
 use Rattle.rules.specs.Records.{roundAt}
+use Rattle.rules.specs.Count.{Result}
 use Rattle.jobs.specs.Job.{Job, groupOf, needed, boardLength, plainResult, roundDraws, rankingOf}
 use Rattle.jobs.specs.Board.{headerBytes, boardBytes, board}
 use Rattle.jobs.specs.Write.{boardWritten, writeOutcome, writeOutput, Valid}
@@ -19,15 +20,16 @@ use Rattle.jobs.specs.Replies.{outcomeOf}
 use Rattle.jobs.specs.declared.Written.{Written}
 use Rattle.rules.proofs.Orders.{orders-of-test}
 use Rattle.jobs.proofs.FineJob.{fine, good-group, no-refusal}
-use Rattle.plain.specs.Measures.{Measured}
+use Rattle.count.specs.State.{listOf, resultOf}
+use Rattle.count.specs.declared.Ended.{Ended}
+use Rattle.count.proofs.Picks.{padded-order}
 use Rattle.plain.specs.declared.rounds.Measure.{Measure}
 use Rattle.output.specs.Written.{written}
 use Rattle.boards.specs.declared.Size.{Size}
 use Rattle.boards.specs.Parts.{boardJob, Able, roundOf}
-use Rattle.boards.proofs.Walk.{rounds-are, few-rounds, order-long, goes-out, left, struck-below}
+use Rattle.boards.proofs.Walk.{rounds-are, few-rounds, goes-out, left, struck-below}
 use Rattle.boards.proofs.Stages.{length-rounds, length-header, place-least}
-use Rattle.boards.proofs.Turns.{front-of}
-use Rattle.writer.specs.Steps.{bytesOf}
+use Rattle.writer.specs.Steps.{Measured, bytesOf}
 use Rattle.writer.proofs.Outcomes.{Answered}
 use Rattle.rules.specs.Count.{isRanking}
 
@@ -98,31 +100,40 @@ module _ (job : Job) (v : Valid sha256 job) where
       let head : length (headerBytes sha256 job G) ≡ 54 = length-header (job .label) (fine sha256 job v .labelled) in
       omega (arith, length-append (headerBytes sha256 job G) B, length-rounds sha256 job G (padded (plainResult job .order)) (plainResult job .rounds))
 
-  -- the order is read back from the array
-  order-back : (order : List ℕ) (rounds : ℕ) → order ≡ padded (plainResult job .order) → rounds ≡ plainResult job .rounds → take (rounds - 1) order ≡ plainResult job .order
-  order-back order rounds eo er = rw (eo, er) (front-of (plainResult job .order) (plainResult job .rounds - 1) (order-long sha256 job (groupOf sha256 job) ranked many))
+  -- by the count and the measure of the job, and a group that is its own
+  module _ (c : Ended) (m : Measure) (w : Measured job c m) (g : Parameters) (e : g ≡ groupOf sha256 job) where
+    abbrev rounds : ℕ
+    rounds = c .count .gone .outs + 1
 
-  -- by the measure of the job, and a group that is its own
-  module _ (m : Measure) (w : Measured (job .n) (job .K) (plainResult job) m) (g : Parameters) (e : g ≡ groupOf sha256 job) where
-    pub can : Able (boardJob (size job) g (job .label) (job .rankings) (job .draws)) (m .order) (m .rounds)
+    rounds-counted : rounds ≡ plainResult job .rounds
+    unfolding resultOf
+    rounds-counted = ap (λ (r : Result). r .rounds) (w .counted)
+
+    order-counted : c .count .gone .order ≡ padded (plainResult job .order)
+    unfolding resultOf
+    order-counted = padded-order (c .count .gone) (w .kept .listed) ∙ ap (λ (r : Result). padded (r .order)) (w .counted)
+
+    pub can : Able (boardJob (size job) g (job .label) (job .rankings) (job .draws)) (c .count .gone .order) rounds
+    unfolding needed
     can =
-        subst (λ (x : Parameters). Able (boardJob (size job) x (job .label) (job .rankings) (job .draws)) (m .order) (m .rounds)) (sym e)
-        (able (m .order) (m .rounds) (w .order) (w .rounds) (rw (w .rounds, ← (w .needed)) (w .small)))
+        subst (λ (x : Parameters). Able (boardJob (size job) x (job .label) (job .rankings) (job .draws)) (c .count .gone .order) rounds) (sym e)
+        (able (c .count .gone .order) rounds order-counted rounds-counted (rw (rounds-counted, ← (w .needed)) (w .small)))
 
-    pub room : (54 ≤ m .length) × (roundAt (job .n) (job .K) (m .rounds) ≤ m .length)
-    room = let long : roundAt (job .n) (job .K) (m .rounds) ≡ m .length = rw (w .rounds) (sym (w .length)) in (omega (arith, place-least (job .n) (job .K) (m .rounds)), omega arith)
+    pub room : (54 ≤ m .length) × (roundAt (job .n) (job .K) rounds ≤ m .length)
+    unfolding boardLength
+    room = let long : roundAt (job .n) (job .K) rounds ≡ m .length = rw rounds-counted (sym (w .length)) in (omega (arith, place-least (job .n) (job .K) rounds), omega arith)
 
     -- past the board the output is as it was
-    wrote : (o : List ℕ) → written (bytesFor job g (m .order) (m .rounds)) o ≡ board sha256 job ++ drop (boardLength job) o
+    wrote : (o : List ℕ) → written (bytesFor job g (c .count .gone .order) rounds) o ≡ board sha256 job ++ drop (boardLength job) o
     wrote o =
-        let same : bytesFor job g (m .order) (m .rounds) ≡ board sha256 job = (λ i. bytesFor job (e i) (w .order i) (w .rounds i)) ∙ is-board in
+        let same : bytesFor job g (c .count .gone .order) rounds ≡ board sha256 job = (λ i. bytesFor job (e i) (order-counted i) (rounds-counted i)) ∙ is-board in
         ap (λ (x : List ℕ). written x o) same ∙ written-at (board sha256 job) o (boardLength job) (ap length (sym is-board) ∙ made-long)
 
-    pub writes : (o o' : List ℕ) (r : Written) → (m .length ≤ length o) × (o' ≡ written (bytesFor job g (m .order) (m .rounds)) o) →
-        (outcomeOf r ≡ boardWritten (m .length) (m .rounds) (take (m .rounds - 1) (m .order)) (m .winner)) × (r .order ≡ m .order) → Answered job o o' r
-    unfolding boardLength writeOutcome writeOutput
+    pub writes : (o o' : List ℕ) (r : Written) → (m .length ≤ length o) × (o' ≡ written (bytesFor job g (c .count .gone .order) rounds) o) →
+        (outcomeOf r ≡ boardWritten (m .length) rounds (listOf (c .count .gone)) (c .winner)) × (r .order ≡ c .count .gone .order) → Answered job o o' r
+    unfolding writeOutcome writeOutput resultOf
     writes o o' r p t =
         let none = no-refusal sha256 job (length o) v (omega (arith, w .length)) in
-        let same : boardWritten (m .length) (m .rounds) (take (m .rounds - 1) (m .order)) (m .winner) ≡ boardWritten (boardLength job) (plainResult job .rounds) (plainResult job .order) (plainResult job .winner) =
-        λ i. boardWritten (w .length i) (w .rounds i) (order-back (m .order) (m .rounds) (w .order) (w .rounds) i) (w .winner i) in
-        (rw none (t .0 ∙ same), (rw none (t .1 ∙ w .order), rw none (p .1 ∙ wrote o)))
+        let same : boardWritten (m .length) rounds (listOf (c .count .gone)) (c .winner) ≡ boardWritten (boardLength job) (plainResult job .rounds) (plainResult job .order) (plainResult job .winner) =
+        λ i. boardWritten (w .length i) (w .counted i .rounds) (w .counted i .order) (w .counted i .winner) in
+        (rw none (t .0 ∙ same), (rw none (t .1 ∙ order-counted), rw none (p .1 ∙ wrote o)))

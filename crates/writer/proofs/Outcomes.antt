@@ -1,5 +1,5 @@
 -- The tests of a job in turn, and what its reply and its output then are. Assumes nothing.
-use Prim.Native.Nat.{ℕ, zero, suc, _*_, _≤_, _<_}
+use Prim.Native.Nat.{ℕ, zero, suc, _+_, _*_, _≤_, _<_}
 use mathlib.Core.Path.{_≡_, refl, sym, ap, _∙_}
 use mathlib.Core.Bool.{Bool, true, false, _&&_, and-eq-true-iff}
 use mathlib.Core.List.{List}
@@ -12,16 +12,18 @@ use Rattle.numbers.proofs.Tests.{by-cases}
 use Rattle.sha256.specs.Message.{sha256}
 use Rattle.group.specs.Elements.{Parameters}
 use Rattle.rules.specs.Group.{sizes, orders, generators}
-use Rattle.rules.specs.Count.{isRanking}
+use Rattle.rules.specs.Records.{roundAt}
+use Rattle.rules.specs.Count.{Result, isRanking}
 use Rattle.rules.specs.Check.{firstFault}
-use Rattle.jobs.specs.Job.{Job, groupOf, rankingOf, needed, boardLength, plainResult}
+use Rattle.jobs.specs.Job.{Job, groupOf, rankingOf, roundDraws, needed, boardLength, plainResult}
 use Rattle.jobs.specs.Write.{labelGood, rankingsGood, drawsGood, jobFault, firstBad, which, jobRefused, writeOutcome, writeOutput, Passed, Valid}
 use Rattle.jobs.specs.Replies.{outcomeOf, orderWritten}
 use Rattle.jobs.specs.declared.Written.{Written}
 use Rattle.parameters.proofs.Rules.{orders-positive, sizes-bounds}
-use Rattle.plain.specs.Measures.{Measured}
+use Rattle.count.specs.State.{resultOf, Kept}
+use Rattle.count.specs.declared.Ended.{Ended}
 use Rattle.plain.specs.declared.rounds.Measure.{Measure}
-use Rattle.writer.specs.Steps.{Stops}
+use Rattle.writer.specs.Steps.{Stops, Measured}
 
 -- the tests in the code's words
 module _ (job : Job) where
@@ -31,11 +33,23 @@ module _ (job : Job) where
   pub label-is : (b : Bool) (g : Parameters) → b ≡ (eqb (length (job .label)) 32 && generators sha256 (job .label) (job .counter) g) → g ≡ groupOf sha256 job → b ≡ labelGood sha256 job
   label-is b g h e = h ∙ rw e
 
-  pub draws-are : (b : Bool) (m : Measure) → Measured (job .n) (job .K) (plainResult job) m →
-      b ≡ (leb (m .needed) (length (job .draws)) && allBelow (m .needed) (λ d. leb 1 (getD (job .draws) d 0) && ltb (getD (job .draws) d 0) (job .q))) → b ≡ drawsGood job
-  unfolding needed
-  draws-are b m w h =
-      h ∙ ap (λ (k : ℕ). leb k (length (job .draws)) && allBelow k (λ d. leb 1 (getD (job .draws) d 0) && ltb (getD (job .draws) d 0) (job .q))) (w .needed)
+  pub measured : (e : Ended) (m : Measure) → (resultOf (job .n) e ≡ plainResult job) × Kept (e .count) × (e .count .gone .outs + 2 ≤ job .n) →
+      (m .needed ≡ roundDraws (job .n) (job .K) (e .count .gone .outs + 1)) × (m .length ≡ roundAt (job .n) (job .K) (e .count .gone .outs + 1)) × (m .needed ≤ 10000000) →
+      Measured job e m
+  unfolding needed boardLength resultOf
+  measured e m c s =
+      record {
+        counted = c .0;
+        kept = c .1;
+        needed = s .0 ∙ ap (λ (r : Result). roundDraws (job .n) (job .K) (r .rounds)) (c .0);
+        length = s .1 ∙ ap (λ (r : Result). roundAt (job .n) (job .K) (r .rounds)) (c .0);
+        small = s .2;
+      }
+
+  pub draws-are : (b : Bool) (k : ℕ) → k ≡ needed job →
+      b ≡ (leb k (length (job .draws)) && allBelow k (λ d. leb 1 (getD (job .draws) d 0) && ltb (getD (job .draws) d 0) (job .q))) → b ≡ drawsGood job
+  draws-are b k e h =
+      h ∙ ap (λ (k : ℕ). leb k (length (job .draws)) && allBelow k (λ d. leb 1 (getD (job .draws) d 0) && ltb (getD (job .draws) d 0) (job .q))) e
 
   abbrev allRanked : ℕ → Bool
   allRanked k = allBelow k (λ k. isRanking (job .n) (rankingOf job k))
@@ -125,10 +139,10 @@ module _ (job : Job) (out : List ℕ) where
   unfolding jobFault firstFault
   stops-draws t e = stops 13 0 (rw (t .sized, t .ordered, t .labelled, t .ranked, e)) (which-none 14 (λ e. omega arith))
 
-  pub stops-room : Valid sha256 job → (m : Measure) → Measured (job .n) (job .K) (plainResult job) m → length out < m .length → Stops job out 15 0
-  unfolding jobFault firstFault boardLength
-  stops-room v m w h =
-      stops 14 0 (rw (v .passed .sized, v .passed .ordered, v .passed .labelled, v .passed .ranked, v .drawn, lt-leb (boardLength job) (length out) (omega (arith, w .length)))) (which-none 15 (λ e. omega arith))
+  pub stops-room : Valid sha256 job → (k : ℕ) → k ≡ boardLength job → length out < k → Stops job out 15 0
+  unfolding jobFault firstFault
+  stops-room v k w h =
+      stops 14 0 (rw (v .passed .sized, v .passed .ordered, v .passed .labelled, v .passed .ranked, v .drawn, lt-leb (boardLength job) (length out) (omega (arith, w)))) (which-none 15 (λ e. omega arith))
 
 -- what the contract says of a reply, and of the output before and after
 abbrev pub Answered : Job → (o o' : List ℕ) → Written → Type 0

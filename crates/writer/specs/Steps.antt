@@ -8,10 +8,13 @@ use Rattle.numbers.specs.Below.{blocks}
 use Rattle.sha256.specs.Message.{sha256}
 use Rattle.group.specs.Elements.{Parameters, parametersOf}
 use Rattle.rules.specs.Answers.{refusalNumber}
-use Rattle.jobs.specs.Job.{Job, groupOf}
+use Rattle.jobs.specs.Job.{Job, groupOf, plainResult, needed, boardLength}
 use Rattle.jobs.specs.Board.{headerBytes}
 use Rattle.jobs.specs.Write.{jobRefused, writeOutcome, writeOutput, Passed}
 use Rattle.output.specs.Written.{written}
+use Rattle.count.specs.State.{resultOf, Kept}
+use Rattle.count.specs.declared.Ended.{Ended}
+use Rattle.plain.specs.declared.rounds.Measure.{Measure}
 use Rattle.boards.specs.Parts.{boardJob, roundOf}
 use Rattle.boards.specs.declared.Size.{Size}
 use Rattle.writer.specs.declared.tests.Tested.{Tested}
@@ -26,6 +29,14 @@ pub record Stops (job : Job) (out : List ℕ) (number which : ℕ) : Type 0 wher
 unfoldable pub Told : Job → Tested → Type 0
 Told job (Sound g) = Passed sha256 job × (parametersOf g ≡ groupOf sha256 job)
 Told job (Refused refusal k) = (out : List ℕ) → Stops job out (refusalNumber refusal) k
+
+-- the count and the measure of a job
+pub record Measured (job : Job) (e : Ended) (m : Measure) : Type 0 where
+  pub counted : resultOf (job .n) e ≡ plainResult job
+  pub kept : Kept (e .count)
+  pub needed : m .needed ≡ needed job
+  pub length : m .length ≡ boardLength job
+  pub small : m .needed ≤ 10000000
 
 -- the bytes of a board of so many rounds, in whose rounds processes go out in an order
 abbrev pub bytesOf : Size → Parameters → (label rankings draws order : List ℕ) (rounds : ℕ) → List ℕ

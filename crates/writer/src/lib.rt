@@ -2,22 +2,24 @@
 use crate::tests::Tested;
 use boards::Size;
 use boards::rounds;
+use count::Count;
+use count::Ended;
 use group::Element;
 use jobs::Reply;
 use jobs::Written;
-use plain::rounds::Measure;
 use rules::Refusal;
 use statements::Setup;
 ghost use mathlib.Core.Path.{_≡_};
-ghost use Prim.Native.Nat.{_-_, _≤_};
-ghost use lib.ListN.{length, replicate, take};
+ghost use Prim.Native.Nat.{_+_, _≤_};
+ghost use lib.ListN.{length, replicate};
 ghost use Rattle.sha256.specs.Message.{sha256};
 ghost use Rattle.group.specs.Elements.{parametersOf};
 ghost use Rattle.rules.specs.Answers.{refusalNumber};
-ghost use Rattle.rules.specs.Records.{roundAt};
+ghost use Rattle.rules.specs.Records.{headerLength, roundAt};
 ghost use Rattle.jobs.specs.Write.{boardWritten, jobRefused, writeOutcome, writeOutput};
 ghost use Rattle.jobs.specs.Replies.{outcomeOf, orderWritten};
 ghost use Rattle.statements.specs.Values.{Ready};
+ghost use Rattle.count.specs.State.{listOf, Kept};
 ghost use Rattle.boards.specs.Parts.{boardJob, Able};
 ghost use Rattle.writer.specs.Jobs.{jobOf};
 ghost use Rattle.writer.specs.Steps.{bytesOf, Put};
@@ -43,21 +45,23 @@ fn refused(refusal: Refusal, which: usize) -> Written
     }
 }
 
-fn board_written(m: Measure) -> Written
-    ensures { λ r. ⌜ (outcomeOf r ≡ boardWritten (m .length) (m .rounds) (take (m .rounds - 1) (m .order)) (m .winner)) × (r .order ≡ m .order) ⌝ }
+fn board_written(ended: Ended, length: usize) -> Written
+    requires { ⌜ Kept (ended .count) ⌝ }
+    ensures { λ r. ⌜ (outcomeOf r ≡ boardWritten length (ended .count .gone .outs + 1) (listOf (ended .count .gone)) (ended .winner)) × (r .order ≡ ended .count .gone .order) ⌝ }
 {
-    let order = m.order;
+    let gone = ended.count.gone;
+    let order = gone.order;
     Written {
         reply: Reply::Board {
-            length: m.length,
-            rounds: m.rounds,
-            winner: m.winner,
+            length,
+            rounds: gone.outs + 1,
+            winner: ended.winner,
         },
         order,
     }
 }
 
-// The board, where the output has room for it.
+// The board of a count that has ended, where the output has room for its length.
 fn put_board(
     out: &mut [u8],
     label: &[u8],
@@ -65,17 +69,19 @@ fn put_board(
     size: Size,
     rankings: &[u8],
     draws: &[u32],
-    m: Measure,
+    count: Count,
+    room: usize,
 ) -> bool
-    requires { ⌜ Ready g × Able (boardJob size (parametersOf (g .group)) (now label) (now rankings) (now draws)) (m .order) (m .rounds) × (length (now label) ≡ 32) ⌝ }
-    requires { ⌜ (54 ≤ m .length) × (roundAt (size .n) (size .k) (m .rounds) ≤ m .length) ⌝ }
-    ensures { λ r. ⌜ Put (m .length) (bytesOf size (parametersOf (g .group)) (now (label .entry)) (now (rankings .entry)) (now (draws .entry)) (m .order) (m .rounds)) (now (out .entry)) (now (out .exit)) r ⌝ }
+    requires { ⌜ Ready g × Able (boardJob size (parametersOf (g .group)) (now label) (now rankings) (now draws)) (count .gone .order) (count .gone .outs + 1) × (length (now label) ≡ 32) ⌝ }
+    requires { ⌜ (headerLength ≤ room) × (roundAt (size .n) (size .k) (count .gone .outs + 1) ≤ room) ⌝ }
+    ensures { λ r. ⌜ Put room (bytesOf size (parametersOf (g .group)) (now (label .entry)) (now (rankings .entry)) (now (draws .entry)) (count .gone .order) (count .gone .outs + 1)) (now (out .entry)) (now (out .exit)) r ⌝ }
 {
-    if out.len() < m.length {
+    if out.len() < room {
         return false;
     }
-    let order = m.order;
-    rounds::write_board(out, label, g, size, rankings, draws, order, m.rounds);
+    let gone = count.gone;
+    let order = gone.order;
+    rounds::write_board(out, label, g, size, rankings, draws, order, gone.outs + 1);
     true
 }
 
@@ -90,7 +96,9 @@ pub fn write(job: Job, label: &[u8], rankings: &[u8], draws: &[u32], out: &mut [
         Tested::Sound(g) => g,
         Tested::Refused(refusal, which) => return refused(refusal, which),
     };
-    let m = plain::rounds::measure_of(rankings, job.n, job.k);
+    let ended = plain::rounds::count(rankings, job.n, job.k);
+    let count = ended.count;
+    let m = plain::rounds::measure_of(job.n, job.k, count.gone.outs + 1);
     if !tests::draws_good(draws, m.needed, job.q) {
         return refused(Refusal::Draws, 0);
     }
@@ -99,8 +107,9 @@ pub fn write(job: Job, label: &[u8], rankings: &[u8], draws: &[u32], out: &mut [
         k: job.k,
         counter: job.counter,
     };
-    if !put_board(out, label, Setup::new(g), size, rankings, draws, m) {
+    let setup = Setup::new(g);
+    if !put_board(out, label, setup, size, rankings, draws, count, m.length) {
         return refused(Refusal::Output, 0);
     }
-    board_written(m)
+    board_written(ended, m.length)
 }

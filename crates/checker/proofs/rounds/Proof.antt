@@ -6,17 +6,18 @@ use native.Mathlib.Omega.{arith}
 use lib.ListN.{length}
 use borrow.Author.Needs.{needs}
 use Rattle.sha256.specs.Message.{sha256}
+use Rattle.rules.specs.Records.{sheetLength}
 use Rattle.rules.specs.Count.{start}
 use Rattle.rules.specs.Check.{accepted, checkFrom, counts}
-use Rattle.rules.specs.Answers.{orderOf}
+use Rattle.rules.specs.Answers.{orderOf, padded}
 use Rattle.count.specs.State.{standingOf, Kept}
-use Rattle.count.proofs.Picks.{sheets-many}
+use Rattle.count.specs.declared.Gone.{Gone}
+use Rattle.count.proofs.Picks.{sheets-many, same-gone}
 use Rattle.records.specs.Heads.{headOf}
-use Rattle.records.specs.Sizes.{sheetSize}
-use Rattle.checker.specs.declared.turns.Round.the-variants.{Open}
+use Rattle.checker.specs.declared.turns.Round.the-variants.{Open, Closed}
 use Rattle.checker.specs.Stages.{Placed}
 use Rattle.checker.specs.Outcomes.{Rounded}
-use Rattle.checker.proofs.RoundPlaces.{sheet-at, sheet-size, placed-first, placed-next}
+use Rattle.checker.proofs.RoundPlaces.{sheet-at, placed-first, placed-next}
 use Rattle.checker.proofs.Onward.{one-leaves, ends, goes-on}
 use Rattle.checker.proofs.rounds.Statement.{statement}
 use Rattle.checker.proofs.rounds.Tie as tie
@@ -51,19 +52,31 @@ returns c =
     (l .stage .a) (omega (arith, l .inv .0 .round)) (l .inv .3) _ (t .0) in
     (c .refused .ensures .0 ∙ sym x, c .refused .ensures .1 ∙ sym (ap orderOf x))
 
+-- the round closes the board
+closes : (c : tie.After-known-told2 Inv-loop μ-loop) →
+    let a = c .before .before .before .before .before .before .before .before .args in
+    let l = c .before .before .before .before .loop in
+    Rounded (now (a .board)) (a .h) (l .count) (l .stage .m) (l .stage .a) (Closed (c .before .round2 .given .0 .0)) (c .before .before .before .turn .result .count)
+closes c = rw (c .before .round2 .given .1) at (c .before .before .before .turn .ensures)
+
 returns-2 : tie.Need-returns-2 Inv-loop μ-loop
 unfolding Rounded
 returns-2 c =
-    let a = c .before .before .before .before .before .before .before .before .before .args in
-    let l = c .before .before .before .before .before .loop in
-    let t = rw (c .before .before .round2 .given .1) at (c .before .before .before .before .turn .ensures) in
+    let a = c .before .before .before .before .before .before .before .before .before .before .args in
+    let l = c .before .before .before .before .before .before .loop in
+    let t = closes (c .before .before) in
     let x = ends (now (a .board)) (headOf (now (a .board)) (a .h))
     (checkFrom sha256 (now (a .board)) (headOf (now (a .board)) (a .h)) (a .h .n) start 0 0) (standingOf (a .h .n) (l .count)) (l .stage .m)
-    (l .stage .a) (omega (arith, l .inv .0 .round)) (l .inv .3) _ (t .0) in (
+    (l .stage .a) (omega (arith, l .inv .0 .round)) (l .inv .3) _ (t .0) in
+    let g = same-gone (a .h .n) _ (l .count) (t .1) in (
       c .accepted .ensures .0
-          ∙ ap (λ (y : ℕ). accepted (y + 1) (standingOf (a .h .n) (l .count) .gone) (c .before .before .round2 .given .0 .0)) (l .inv .1) ∙ sym x,
-      c .accepted .ensures .1 ∙ sym (ap orderOf x),
+          ∙ (λ i. accepted ((ap (λ (y : Gone). y .outs) (t .1) ∙ l .inv .1) i + 1) (g i) (c .before .before .before .round2 .given .0 .0)) ∙ sym x,
+      c .accepted .ensures .1 ∙ ap padded g ∙ sym (ap orderOf x),
     )
+
+accepted-requires : tie.Need-accepted-requires Inv-loop μ-loop
+unfolding Rounded
+accepted-requires c κs = closes (c .before) .2
 
 -- the round stays open
 opens : (c : tie.After-known-told3 Inv-loop μ-loop) →
@@ -75,12 +88,12 @@ opens c = rw (c .before .round3 .given .1) at (c .before .before .before .turn .
 -- and its sheet is on the board
 room : (c : tie.After-known-told3 Inv-loop μ-loop) →
     let a = c .before .before .before .before .before .before .before .before .args in
-    let l = c .before .before .before .before .loop in l .stage .at + a .h .k * l .stage .size + sheetSize (a .h .n) ≤ length (now (a .board))
+    let l = c .before .before .before .before .loop in l .stage .at + a .h .k * l .stage .size + sheetLength (a .h .n) ≤ length (now (a .board))
 unfolding Rounded
 room c =
     let a = c .before .before .before .before .before .before .before .before .args in
     let l = c .before .before .before .before .loop in
-    rw (sheet-at (now (a .board)) (a .h) (l .stage) (l .inv .0), ← sheet-size (a .h .n)) (opens c .2)
+    rw (sheet-at (now (a .board)) (a .h) (l .stage) (l .inv .0)) (opens c .2)
 
 next-requires : tie.Need-next-requires Inv-loop μ-loop
 next-requires c κs =
@@ -110,5 +123,5 @@ rounds-spec =
     tie.close
     (tie.spec Inv-loop μ-loop (λ c κs. search needs) (λ c κs. c .before .before .pre .0 .high) loop-holds
     (λ c κs. (c .before .before .before .before .pre .0, c .loop .inv .0, c .loop .inv .2, c .loop .inv .1)) (λ c. search needs) (λ c κs. search needs) returns
-    (λ c. search needs) (λ c κs. c .before .before .before .before .loop .inv .2) returns-2 (λ c. search needs) next-requires
+    (λ c. search needs) accepted-requires returns-2 (λ c. search needs) next-requires
     (λ c. rw (c .next2 .ensures) (omega (arith, c .before .before .before .before .before .before .loop .inv .0 .round))) loop-again)

@@ -1,6 +1,7 @@
-use Prim.Native.Nat.{ℕ}
+use Prim.Native.Nat.{ℕ, _+_}
 use mathlib.Core.Path.{_≡_, refl, sym, ap, subst, _∙_}
 use mathlib.Core.List.{List}
+use native.Mathlib.Omega.{arith}
 use borrow.Author.Tests.{not-true, not-false}
 use denote.Ref.{now}
 use Rattle.sha256.specs.Message.{sha256}
@@ -10,9 +11,9 @@ use Rattle.jobs.specs.Job.{groupOf}
 use Rattle.jobs.specs.Write.{drawsGood, Passed, Valid}
 use Rattle.jobs.proofs.FineJob.{fine}
 use Rattle.writer.specs.Jobs.{jobOf}
-use Rattle.writer.specs.Steps.{Told, Put}
+use Rattle.writer.specs.Steps.{Told, Measured, Put}
 use Rattle.writer.specs.declared.tests.Tested.{Tested}
-use Rattle.writer.proofs.Outcomes.{group-positive, measurable, draws-are, stops-draws, stops-room, refuses}
+use Rattle.writer.proofs.Outcomes.{group-positive, measurable, measured, draws-are, stops-draws, stops-room, refuses}
 use Rattle.writer.proofs.Boards.{bytesFor, can, room, writes}
 use borrow.Author.Needs.{needs}
 use Rattle.writer.proofs.write.Statement.{statement}
@@ -33,14 +34,21 @@ sound : (c : tie.After-known-told) → Passed sha256 (job c) × (parametersOf (c
 unfolding Told
 sound c = told (c .before .before .before) _ (c .before .tested .given .1)
 
-draws-told : (c : tie.After-draws-good) → c .draws-good .result ≡ drawsGood (job (c .before .before))
-draws-told c = draws-are (job (c .before .before)) _ _ (c .before .measure-of .ensures) (c .draws-good .ensures)
+-- and this the count and the measure
+abbrev passed : tie.After-measure-of → tie.After-known-told
+passed c = c .before .before .before .before
 
-fair : (c : tie.Else1) → Valid sha256 (job (c .before .before .before))
-fair c = let t = c .before .before .before in record { passed = sound t .0; drawn = sym (draws-told (c .before)) ∙ not-false _ (c .if1 .left) }
+measured-is : (c : tie.After-measure-of) → Measured (job (passed c)) (c .before .before .before .count .result) (c .measure-of .result)
+measured-is c = measured (job (passed c)) _ _ (c .before .before .before .count .ensures) (c .measure-of .ensures)
 
-group-is : (c : tie.After-new) → parametersOf (c .new .result .group) ≡ groupOf sha256 (job (c .before .before .before .before .before))
-group-is c = ap parametersOf (c .new .ensures .0) ∙ sound (c .before .before .before .before .before) .1
+draws-told : (c : tie.After-draws-good) → c .draws-good .result ≡ drawsGood (job (passed (c .before)))
+draws-told c = draws-are (job (passed (c .before))) _ _ (measured-is (c .before) .needed) (c .draws-good .ensures)
+
+fair : (c : tie.Else1) → Valid sha256 (job (passed (c .before .before)))
+fair c = record { passed = sound (passed (c .before .before)) .0; drawn = sym (draws-told (c .before)) ∙ not-false _ (c .if1 .left) }
+
+group-is : (c : tie.After-new) → parametersOf (c .new .result .group) ≡ groupOf sha256 (job (passed (c .before .before .before)))
+group-is c = ap parametersOf (c .new .ensures .0) ∙ sound (passed (c .before .before .before)) .1
 
 returns : tie.Need-returns
 unfolding Told
@@ -51,43 +59,42 @@ returns c =
 returns-2 : tie.Need-returns-2
 returns-2 c =
     let d = c .before .before in
-    let t = d .before .before in
+    let t = passed (d .before) in
     let bad = sym (draws-told d) ∙ not-true _ (c .before .if1 .taken) in
     refuses (job t) _ _ (c .refused2 .result) 14 0 (stops-draws (job t) _ (sound t .0) bad) (c .refused2 .ensures) refl
 
 put-board-requires : tie.Need-put-board-requires
 put-board-requires c κs =
-    let v = fair (c .before .before) in
-    let m = c .before .before .before .before in
-    let j = job (m .before) in (
-      (c .new .ensures .1, can j v (m .measure-of .result) (m .measure-of .ensures) _ (group-is c), fine sha256 j v .labelled),
-      room j v (m .measure-of .result) (m .measure-of .ensures) _ (group-is c),
+    let n = c .before in
+    let v = fair (n .before) in
+    let m = n .before .before .before in
+    let j = job (passed m) in (
+      (n .new .ensures .1, can j v _ _ (measured-is m) _ (group-is n), fine sha256 j v .labelled),
+      room j v _ _ (measured-is m) _ (group-is n),
     )
 
 -- where the board was to be put
 module _ (c : tie.After-put-board) where
-  abbrev measured : tie.After-measure-of
-  measured = c .before .before .before .before .before
+  abbrev at : tie.After-measure-of
+  at = c .before .before .before .before .before
 
   abbrev bytes : List ℕ
   bytes =
-      let m = measured .measure-of .result in
-      bytesFor (job (measured .before)) (parametersOf (c .before .new .result .group)) (m .order) (m .rounds)
+      let g = at .before .before .before .count .result .count .gone in
+      bytesFor (job (passed at)) (parametersOf (c .before .before .new .result .group)) (g .order) (g .outs + 1)
 
 returns-3 : tie.Need-returns-3
 returns-3 c =
     let p = c .before .before .before .before in
-    let m = measured p in
+    let j = job (passed (at p)) in
     let w = subst (Put _ (bytes p) _ _) (not-true (p .put-board .result) (c .before .if2 .taken)) (p .put-board .ensures) in
-    refuses (job (m .before)) _ _ (c .refused3 .result) 15 0
-    (stops-room (job (m .before)) _ (fair (p .before .before .before)) (m .measure-of .result) (m .measure-of .ensures) (w .0)) (c .refused3 .ensures) (w .1)
+    refuses j _ _ (c .refused3 .result) 15 0 (stops-room j _ (fair (p .before .before .before)) _ (measured-is (at p) .length) (w .0)) (c .refused3 .ensures) (w .1)
 
 returns-4 : tie.Need-returns-4
 returns-4 c =
     let p = c .before .before .before .before in
-    let m = measured p in
     let w = subst (Put _ (bytes p) _ _) (not-false (p .put-board .result) (c .before .if2 .left)) (p .put-board .ensures) in
-    writes (job (m .before)) (fair (p .before .before .before)) (m .measure-of .result) (m .measure-of .ensures) _ (group-is (p .before)) _ _
+    writes (job (passed (at p))) (fair (p .before .before .before)) _ _ (measured-is (at p)) _ (group-is (p .before .before)) _ _
     (c .board-written .result) w (c .board-written .ensures)
 
 pub write-spec : {M : Type 1} → statement M
@@ -100,14 +107,16 @@ write-spec =
     (λ c κs. search needs)
     returns
     (λ c κs. measurable (job c) (sound c .0))
+    (λ c. omega (arith, c .before .before .count .ensures .1 .listed .few))
+    (λ c κs. let w = measurable (job (c .before .before .before)) (sound (c .before .before .before) .0) in (w .1, omega (arith, c .before .before .count .ensures .2), w .2))
     (λ c κs. search needs)
     (λ c κs. search needs)
     returns-2
-    (λ c κs. let t = c .before .before .before .before in group-positive (job t) _ (sound t .1) (sound t .0 .ordered))
+    (λ c κs. let t = passed (c .before .before) in group-positive (job t) _ (sound t .1) (sound t .0 .ordered))
     put-board-requires
     (λ c κs. search needs)
     (λ c. search needs)
     returns-3
-    (λ c κs. search needs)
+    (λ c κs. measured-is (at (c .before .before .before)) .kept)
     (λ c. search needs)
     returns-4)

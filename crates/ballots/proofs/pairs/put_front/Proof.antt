@@ -1,11 +1,18 @@
-use mathlib.Core.Path.{refl}
+use mathlib.Core.Path.{_≡_}
+use native.Mathlib.Omega.{arith}
+use lib.ListN.{length, length-append}
 use Rattle.output.proofs.Laws.{more}
 use borrow.Author.Needs.{needs}
 use Rattle.ballots.proofs.pairs.put_front.Statement.{statement}
 use Rattle.ballots.proofs.pairs.put_front.Tie as tie
 
 returns : tie.Need-returns
-returns c = more _ _ _ _ _ _ refl (more _ _ _ _ _ _ refl (c .before .before .before .before .before .before .before .before .before .before .put-two .ensures) (c .before .before .before .before .before .before .put-half .ensures)) (c .before .before .put-bytes .ensures)
+returns c =
+    let s = c .before .before .before .before .before .before .before .before .before .before .before .before .before .before in
+    let two : length (s .args .mark) ≡ 2 = omega (arith, s .good) in
+    more _ _ _ _ _ _ (simp length-append (omega arith))
+    (more _ _ _ _ _ _ two (c .before .before .before .before .before .before .before .before .before .before .put-two .ensures) (c .before .before .before .before .before .before .put-half .ensures))
+    (c .before .before .put-bytes .ensures)
 
 pub put-front-spec : {M : Type 1} → statement M
 put-front-spec =

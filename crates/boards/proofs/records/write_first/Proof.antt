@@ -9,7 +9,8 @@ use Rattle.rules.specs.Answers.{padded}
 use Rattle.jobs.specs.Job.{recordDraws, drawsAt, rankingOf, standing}
 use Rattle.output.specs.Written.{written}
 use Rattle.ballots.proofs.Entries.{spread-part}
-use Rattle.plain.proofs.Sizes.{draws-first, length-first}
+use Rattle.layout.proofs.Rounds.{length-first}
+use Rattle.plain.proofs.Sizes.{draws-first}
 use Rattle.count.specs.State.{listOf}
 use Rattle.boards.specs.Parts.{boardJob}
 use Rattle.boards.proofs.Turns.{ballot-is}

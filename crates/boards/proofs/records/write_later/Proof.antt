@@ -9,7 +9,7 @@ use Rattle.rules.specs.Answers.{padded}
 use Rattle.jobs.specs.Job as J
 use Rattle.jobs.specs.Job.{drawsAt, rankingOf, standing, placeOf}
 use Rattle.output.specs.Written.{written}
-use Rattle.plain.proofs.Sizes.{length-later}
+use Rattle.layout.proofs.Rounds.{length-later}
 use Rattle.count.specs.State.{listOf}
 use Rattle.boards.specs.Parts.{boardJob, Later}
 use Rattle.jobs.proofs.Draws.{draws-within, round-more}

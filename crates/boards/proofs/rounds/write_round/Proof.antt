@@ -29,10 +29,6 @@ write-records-requires c κs =
 start : (c : tie.After-record-length) → c .before .before .before .before .before .before .before .before .before .before .args .size .k * c .record-length .result ≡ c .before .before .before .before .before .before .before .before .before .before .args .size .k * recordLength (c .before .before .before .before .before .before .before .before .before .before .args .size .n) (c .before .before .before .before .before .before .before .before .before .before .args .m)
 start c = ap (λ (x : ℕ). c .before .before .before .before .before .before .before .before .before .before .args .size .k * x) (c .record-length .ensures .0)
 
-sheet-long : (n : ℕ) → sheetLength n ≡ 4 + 6 * n
-unfolding sheetLength
-sheet-long n = refl
-
 write-sheet-requires : tie.Need-write-sheet-requires
 write-sheet-requires c κs =
     let s = c .before .before .before .before .before .before .before .before .before .before .before .before .before .before .before in
@@ -50,7 +46,7 @@ write-sheet-requires c κs =
       a .n-high,
       omega (arith, s .pre .2, a .low, draws-mono n K (f .m) (suc (f .m)) (omega arith)),
       omega (arith, s .pre .2, r, e, a .drawn .enough),
-      simp (length-take, length-drop) (omega (arith, s .pre .3, start (c .before .before .before .before .before), sheet-long n, c .before .before .before .before .before .before, c .before .before .before .before .before .before .before)),
+      simp (length-take, length-drop) (omega (arith, s .pre .3, start (c .before .before .before .before .before), c .before .before .before .before .before .before, c .before .before .before .before .before .before .before)),
       omega (arith, c .low .ensures, a .few, a .n-high),
     )
 

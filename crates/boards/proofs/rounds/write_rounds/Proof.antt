@@ -1,5 +1,5 @@
-use Prim.Native.Nat.{_+_, _*_, _-_, _≤_}
-use mathlib.Core.Path.{_≡_, refl, _∙_}
+use Prim.Native.Nat.{ℕ, _+_, _*_, _-_, _≤_, _<_}
+use mathlib.Core.Path.{_≡_, refl, ap, _∙_}
 use native.Mathlib.Omega.{arith}
 use lib.ListN.{length, length-take, length-drop}
 use denote.Ref.{now}
@@ -30,62 +30,83 @@ loop-holds : tie.Need-loop-holds Inv-loop μ-loop
 unfolding blocks roundAt roundDraws
 loop-holds c = (omega arith, refl, refl, refl, none _)
 
+-- where the loop is entered
+abbrev entry : tie.In-loop Inv-loop μ-loop → tie.Start Inv-loop μ-loop
+entry c = c .before .before .before .before .before .before
+
 -- the round and its end are within the board
 within : (c : tie.In-loop Inv-loop μ-loop) →
-    c .before .loop .at + c .before .before .before .before .before .before .args .size .k * recordLength (c .before .before .before .before .before .before .args .size .n) (c .before .loop .m) + sheetLength (c .before .before .before .before .before .before .args .size .n) ≤ length (now (c .before .before .before .before .before .before .args .out))
+    let f = entry c .args in
+    let l = c .before .loop in l .at + f .size .k * recordLength (f .size .n) (l .m) + sheetLength (f .size .n) ≤ length (now (f .out))
 within c =
-    let s = c .before .before .before .before .before .before in
+    let s = entry c in
     let f = s .args in
     let l = c .before .loop in
     omega (arith, place-next (f .size .n) (f .size .k) (l .m), place-mono (f .size .n) (f .size .k) (l .m + 1) (f .count) (omega arith), s .pre .2, l .inv .2)
 
 write-round-requires : tie.Need-write-round-requires Inv-loop μ-loop
 write-round-requires c κs =
-    let s = c .before .before .before .before .before .before .before in
+    let s = entry (c .before) in
     let f = s .args in
     let l = c .before .before .loop in
     let job = boardJob (f .size) (parametersOf (f .g .group)) (now (f .label)) (now (f .rankings)) (now (f .draws)) in
     (s .pre .0, able-down job (f .order) (f .count) (l .m) (omega arith) (s .pre .1), l .inv .3, simp (length-take, length-drop) (omega (arith, within (c .before), l .inv .1)))
 
--- the next round's place
-place : (c : tie.After-record-length Inv-loop μ-loop) →
-    c .before .before .before .before .before .before .loop .at + (c .before .before .before .before .before .before .before .before .before .before .before .args .size .k * c .record-length .result + 4 + 6 * c .before .before .before .before .before .before .before .before .before .before .before .args .size .n) + 54 ≡ roundAt (c .before .before .before .before .before .before .before .before .before .before .before .args .size .n) (c .before .before .before .before .before .before .before .before .before .before .before .args .size .k) (c .before .before .before .before .before .before .loop .m + 1)
-place c =
-    let f = c .before .before .before .before .before .before .before .before .before .before .before .args in
-    let l = c .before .before .before .before .before .before .loop in
-    omega (arith, length-more (f .size .n) (f .size .k) (l .m) (l .at + 54) (c .record-length .result) (l .inv .2) (c .record-length .ensures .0))
+-- the round's number is below that of processes
+below : (c : tie.In-loop Inv-loop μ-loop) → (entry c .args .size .n ≤ 8) × (c .before .loop .m < entry c .args .size .n)
+below c = (entry c .pre .1 .n-high, omega (arith, entry c .pre .1 .few, c .loop-test .taken))
 
-inside : (c : tie.After-record-length Inv-loop μ-loop) → roundAt (c .before .before .before .before .before .before .before .before .before .before .before .args .size .n) (c .before .before .before .before .before .before .before .before .before .before .before .args .size .k) (c .before .before .before .before .before .before .loop .m + 1) ≤ length (now (c .before .before .before .before .before .before .before .before .before .before .before .args .out)) + 54
+-- the next round's place
+place : (c : tie.After-sheet-length Inv-loop μ-loop) →
+    let i = c .before .before .before .before .before .before in
+    let f = entry i .args in
+    let l = i .before .loop in
+    l .at + (f .size .k * c .before .record-length .result + c .sheet-length .result) + 54 ≡ roundAt (f .size .n) (f .size .k) (l .m + 1)
+place c =
+    let i = c .before .before .before .before .before .before in
+    let f = entry i .args in
+    let l = i .before .loop in
+    omega (arith, length-more (f .size .n) (f .size .k) (l .m) (l .at + 54) (c .before .record-length .result) (c .sheet-length .result) (l .inv .2) (c .before .record-length .ensures .0) (c .sheet-length .ensures .0))
+
+inside : (c : tie.In-loop Inv-loop μ-loop) → let f = entry c .args in roundAt (f .size .n) (f .size .k) (c .before .loop .m + 1) ≤ length (now (f .out)) + 54
 inside c =
-    let s = c .before .before .before .before .before .before .before .before .before .before .before in
-    let f = s .args in
-    omega (arith, place-mono (f .size .n) (f .size .k) (c .before .before .before .before .before .before .loop .m + 1) (f .count) (omega (arith, c .before .before .before .before .before .loop-test .taken)), s .pre .2)
+    let f = entry c .args in
+    omega (arith, place-mono (f .size .n) (f .size .k) (c .before .loop .m + 1) (f .count) (omega (arith, c .loop-test .taken)), entry c .pre .2)
+
+-- the bytes of the round are no more
+bytes : (c : tie.After-record-length Inv-loop μ-loop) →
+    let i = c .before .before .before .before .before in entry i .args .size .k * c .record-length .result ≤ length (now (entry i .args .out))
+bytes c =
+    let i = c .before .before .before .before .before in
+    omega (arith, within i, ap (λ (x : ℕ). entry i .args .size .k * x) (c .record-length .ensures .0))
 
 draws-next : (c : tie.After-record-draws Inv-loop μ-loop) →
-    c .before .before .before .before .before .before .before .loop .from + c .before .before .before .before .before .before .before .before .before .before .before .before .args .size .k * c .record-draws .result ≡ roundDraws (c .before .before .before .before .before .before .before .before .before .before .before .before .args .size .n) (c .before .before .before .before .before .before .before .before .before .before .before .before .args .size .k) (c .before .before .before .before .before .before .before .loop .m + 1)
+    let i = c .before .before .before .before .before .before .before in
+    let f = entry i .args in
+    let l = i .before .loop in l .from + f .size .k * c .record-draws .result ≡ roundDraws (f .size .n) (f .size .k) (l .m + 1)
 draws-next c =
-    let f = c .before .before .before .before .before .before .before .before .before .before .before .before .args in
-    let l = c .before .before .before .before .before .before .before .loop in
+    let i = c .before .before .before .before .before .before .before in
+    let f = entry i .args in
+    let l = i .before .loop in
     draws-more (f .size .n) (f .size .k) (l .m) (l .from) (c .record-draws .result) (l .inv .3) (c .record-draws .ensures .0)
 
-near : (c : tie.After-record-draws Inv-loop μ-loop) → roundDraws (c .before .before .before .before .before .before .before .before .before .before .before .before .args .size .n) (c .before .before .before .before .before .before .before .before .before .before .before .before .args .size .k) (c .before .before .before .before .before .before .before .loop .m + 1) ≤ 10000000
+near : (c : tie.In-loop Inv-loop μ-loop) → let f = entry c .args in roundDraws (f .size .n) (f .size .k) (c .before .loop .m + 1) ≤ 10000000
 near c =
-    let s = c .before .before .before .before .before .before .before .before .before .before .before .before in
-    let f = s .args in
-    omega (arith, draws-mono (f .size .n) (f .size .k) (c .before .before .before .before .before .before .before .loop .m + 1) (f .count) (omega (arith, c .before .before .before .before .before .before .loop-test .taken)), s .pre .1 .low)
+    let f = entry c .args in
+    omega (arith, draws-mono (f .size .n) (f .size .k) (c .before .loop .m + 1) (f .count) (omega (arith, c .loop-test .taken)), entry c .pre .1 .low)
 
 loop-again : tie.Need-loop-again Inv-loop μ-loop
 loop-again c =
-    let l = c .before .before .before .before .before .before .before .loop in
-    let s = c .before .before .before .before .before .before .before .before .before .before .before .before in
-    let f = s .args in
+    let i = c .before .before .before .before .before .before .before in
+    let l = i .before .loop in
+    let f = entry i .args in
     let g = parametersOf (f .g .group) in
     let job = boardJob (f .size) g (now (f .label)) (now (f .rankings)) (now (f .draws)) in (
-      omega (arith, c .before .before .before .before .before .before .loop-test .taken),
+      omega (arith, i .loop-test .taken),
       search needs,
       place (c .before),
       draws-next c,
-      rounds-more sha256 job g (f .order) (l .m) (l .at) _ (l .out) _ (l .inv .2) (l .inv .4) (c .before .before .before .before .write-round .ensures),
+      rounds-more sha256 job g (f .order) (l .m) (l .at) _ (l .out) _ (l .inv .2) (l .inv .4) (c .before .before .before .before .before .write-round .ensures),
     )
 
 returns : tie.Need-returns Inv-loop μ-loop
@@ -105,17 +126,16 @@ write-rounds-spec =
     (λ c. omega (arith, within c, c .before .loop .inv .1))
     (λ c. omega (arith, within c, c .before .loop .inv .1))
     write-round-requires
-    (λ c κs. (c .before .before .before .before .before .before .before .before .before .before .pre .1 .n-high, omega (arith, c .before .before .before .before .before .before .before .before .before .before .pre .1 .few, c .before .before .before .before .loop-test .taken)))
-    (λ c. omega (arith, place c, inside c, c .before .before .before .before .before .before .before .before .before .before .before .good))
-    (λ c. omega (arith, place c, inside c, c .before .before .before .before .before .before .before .before .before .before .before .good))
-    (λ c. omega (arith, place c, inside c, c .before .before .before .before .before .before .before .before .before .before .before .good))
-    (λ c. omega (arith, place c, inside c, c .before .before .before .before .before .before .before .before .before .before .before .good))
-    (λ c. omega (arith, place c, inside c, c .before .before .before .before .before .before .before .before .before .before .before .good))
-    (λ c κs. (c .before .before .before .before .before .before .before .before .before .before .before .pre .1 .n-high, omega (arith, c .before .before .before .before .before .before .before .before .before .before .before .pre .1 .few, c .before .before .before .before .before .loop-test .taken)))
-    (λ c. omega (arith, draws-next c, near c))
-    (λ c. omega (arith, draws-next c, near c))
-    (λ c. omega (arith, c .before .before .before .before .before .before .loop-test .taken, c .before .before .before .before .before .before .before .before .before .before .before .before .pre .1 .few, c .before .before .before .before .before .before .before .before .before .before .before .before .pre .1 .n-high))
-    (λ c. omega (arith, c .before .before .before .before .before .before .loop-test .taken))
+    (λ c κs. below (c .before .before .before .before))
+    (λ c. omega (arith, bytes c, entry (c .before .before .before .before .before) .good))
+    (λ c κs. below (c .before .before .before .before .before) .0)
+    (λ c. omega (arith, place c, inside (c .before .before .before .before .before .before), entry (c .before .before .before .before .before .before) .good))
+    (λ c. omega (arith, place c, inside (c .before .before .before .before .before .before), entry (c .before .before .before .before .before .before) .good))
+    (λ c κs. below (c .before .before .before .before .before .before))
+    (λ c. omega (arith, draws-next c, near (c .before .before .before .before .before .before .before)))
+    (λ c. omega (arith, draws-next c, near (c .before .before .before .before .before .before .before)))
+    (λ c. omega (arith, below (c .before .before .before .before .before .before .before)))
+    (λ c. omega (arith, c .before .before .before .before .before .before .before .loop-test .taken))
     loop-again
     (λ c. search needs)
     returns)

@@ -11,9 +11,8 @@ use Rattle.rules.specs.Check.{faultBelow, recordFault}
 use Rattle.rules.specs.Answers.{refusalNumber}
 use Rattle.records.specs.declared.sheet.Outcome.the-variants as O
 use Rattle.records.specs.Heads.{headOf}
-use Rattle.records.specs.Sizes.{sheetSize}
 use Rattle.checker.specs.Outcomes.{Searched}
-use Rattle.checker.proofs.RoundPlaces.{sheet-at, sheet-size}
+use Rattle.checker.proofs.RoundPlaces.{sheet-at}
 use Rattle.checker.proofs.RoundEnds.{Stepping, by-ballot, by-sheet, closing-fits, by-end, by-rest, by-next}
 use Rattle.checker.proofs.turns.turn.Statement.{statement}
 use Rattle.checker.proofs.turns.turn.Tie as tie
@@ -44,8 +43,8 @@ placed c =
 
 ends : (c : tie.After-enum-told) →
     let a = c .before .before .before .before .args in
-    a .stage .at + a .h .k * a .stage .size + sheetSize (a .h .n) ≡ recordAt (a .h .n) (a .h .k) (a .stage .m) (a .h .k) + sheetLength (a .h .n)
-ends c = rw (placed c, sheet-size (c .before .before .before .before .args .h .n))
+    a .stage .at + a .h .k * a .stage .size + sheetLength (a .h .n) ≡ recordAt (a .h .n) (a .h .k) (a .stage .m) (a .h .k) + sheetLength (a .h .n)
+ends c = rw (placed c)
 
 small : (c : tie.After-enum-told) → let a = c .before .before .before .before .args in a .stage .at + a .h .k * a .stage .size ≤ length (now (a .board))
 small c = rw (placed c) (none-found c .1)
@@ -72,24 +71,25 @@ sheet-step-requires c κs =
     let pre = c .before .before .before .before .before .before .pre in
     ((pre .0, pre .2, pre .3, omega (arith, pre .1 .round), small (c .before .before)), (placed (c .before .before), pre .1 .here, pre .1 .sized))
 
-add-if1-2 : tie.Need-add-if1-2
-add-if1-2 c =
-    let a = c .before .before .before .before .before .before .before .before .before .before .before .before .args in
-    let e = c .before .before .before .before .before .before .before .before in
+add-if1 : tie.Need-add-if1
+add-if1 c =
+    let s = c .before .before .before .before .before .before .before .before .before .before .before .before .before in
+    let e = c .before .before .before .before .before .before .before .before .before in
     omega (
       arith,
-      closing-fits (now (a .board)) (a .h) (a .count) (a .stage .m) (a .stage .a) (none-found e .0) _ _ (closing c),
+      closing-fits (now (s .args .board)) (s .args .h) (s .args .count) (s .args .stage .m) (s .args .stage .a) (none-found e .0) _ _ (closing (c .before)),
       ends e,
-      c .before .before .before .before .before .before .before .before .before .before .before .before .good,
+      c .sheet-length .ensures .0,
+      s .good,
     )
 
 returns-2 : tie.Need-returns-2
 returns-2 c =
-    let a = c .before .before .before .before .before .before .before .before .before .before .before .before .before .before .args in
-    let e = c .before .before .before .before .before .before .before .before .before .before in
+    let a = c .before .before .before .before .before .before .before .before .before .before .before .before .before .before .before .args in
+    let e = c .before .before .before .before .before .before .before .before .before .before .before in
     rw (c .refused3 .ensures .0, c .refused3 .ensures .1)
-    (by-rest (now (a .board)) (a .h) (a .count) (a .stage .m) (a .stage .a) (none-found e .0) _ _ (closing (c .before .before)) _ (λ l. omega (arith, ends e))
-    (ap (λ n. n + 1) (c .before .before .before .before .before .record-number2 .ensures .0)))
+    (by-rest (now (a .board)) (a .h) (a .count) (a .stage .m) (a .stage .a) (none-found e .0) _ _ (closing (c .before .before .before)) _
+    (λ l. omega (arith, ends e, c .before .before .sheet-length .ensures .0)) (ap (λ n. n + 1) (c .before .before .before .before .before .before .record-number2 .ensures .0)))
 
 returns-3 : tie.Need-returns-3
 returns-3 c =
@@ -100,9 +100,9 @@ returns-3 c =
 
 returns-4 : tie.Need-returns-4
 returns-4 c =
-    let a = c .before .before .before .before .before .before .before .before .before .before .before .before .before .args in
-    let e = c .before .before .before .before .before .before .before .before .before in
-    by-end (now (a .board)) (a .h) (a .count) (a .stage .m) (a .stage .a) (none-found e .0) _ _ (closing (c .before)) (omega (arith, ends e))
+    let a = c .before .before .before .before .before .before .before .before .before .before .before .before .before .before .args in
+    let e = c .before .before .before .before .before .before .before .before .before .before in
+    by-end (now (a .board)) (a .h) (a .count) (a .stage .m) (a .stage .a) (none-found e .0) _ _ (closing (c .before .before)) (omega (arith, ends e, c .before .sheet-length .ensures .0))
 
 returns-5 : tie.Need-returns-5
 returns-5 c =
@@ -115,5 +115,5 @@ turn-spec =
     tie.close
     (tie.spec (λ c κs. search needs) (λ c. search needs) record-number-requires (λ c κs. search needs) returns (λ c. search needs)
     (λ c. omega (arith, small (c .before), c .before .before .before .before .before .good)) (λ c. omega (arith, small (c .before .before), c .before .before .before .before .before .before .good)) sheet-step-requires
-    (λ c κs. search needs) (λ c. search needs) (λ c κs. search needs) (λ c. search needs) (λ c. search needs) (λ c. search needs) add-if1-2
+    (λ c κs. search needs) (λ c. search needs) (λ c κs. search needs) (λ c. search needs) (λ c κs. search needs) add-if1
     (λ c. search needs) (λ c κs. search needs) returns-2 (λ c. search needs) returns-3 returns-4 returns-5)

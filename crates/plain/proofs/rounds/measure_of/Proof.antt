@@ -1,96 +1,51 @@
-use Prim.Native.Nat.{ℕ, _+_, _-_, _*_, _≤_}
-use mathlib.Core.Path.{_≡_, refl, sym, ap, _∙_}
+use Prim.Native.Nat.{_+_, _-_, _*_, _≤_}
+use mathlib.Core.Path.{_≡_, refl, _∙_}
 use native.Mathlib.Omega.{arith}
-use denote.Ref.{now}
-use Rattle.rules.specs.Bytes.{part}
-use Rattle.rules.specs.Answers.{padded}
 use Rattle.rules.specs.Records.{roundAt}
-use Rattle.rules.specs.Count.{Result, plainCount, countFrom, table}
 use Rattle.jobs.specs.Job.{roundDraws}
-use Rattle.count.specs.State.{Kept, standingOf}
-use Rattle.count.proofs.Picks.{gone-is, sheets-many}
-use Rattle.plain.proofs.Counted.{not-last, count-goes, count-ends, draws-more, length-more, padded-order, far, at-most}
+use Rattle.plain.proofs.Counted.{draws-more, length-more, at-most}
 use borrow.Author.Needs.{needs}
 use Rattle.plain.proofs.rounds.measure_of.Statement.{statement}
 use Rattle.plain.proofs.rounds.measure_of.Tie as tie
 
 abbrev Inv-loop : tie.InvT-loop
-Inv-loop rankings n k count₀ rounds₀ needed₀ length₀ count rounds needed length =
-    Kept count × (count .gone .outs ≡ rounds) × (rounds + 2 ≤ n) × (needed ≤ rounds * 1000000) × (length ≤ 54 + rounds * 20000000)
-    × (needed ≡ roundDraws n k rounds) × (length ≡ roundAt n k rounds)
-    × (plainCount n (table k (λ b. part rankings (b * n) n)) ≡ countFrom n (table k (λ b. part rankings (b * n) n)) (n - rounds) (standingOf n count))
+Inv-loop n k rounds needed₀ length₀ m₀ needed length m =
+    (m ≤ rounds) × (needed ≡ roundDraws n k m) × (length ≡ roundAt n k m) × (needed ≤ m * 1000000) × (length ≤ 54 + m * 20000000)
 
 abbrev μ-loop : tie.MeasureT-loop
-μ-loop rankings n k count₀ rounds₀ needed₀ length₀ count rounds needed length = n - rounds
+μ-loop n k rounds needed₀ length₀ m₀ needed length m = rounds - m
+
+-- the draws and the bytes of a round are few
+few : (c : tie.After-record-draws Inv-loop μ-loop) → c .before .before .before .args .k * c .record-draws .result ≤ 1000000
+few c = omega (arith, at-most (c .before .before .before .args .k) (c .record-draws .result) (c .before .before .before .pre .2), c .record-draws .ensures .1)
+
+short : (c : tie.After-record-length Inv-loop μ-loop) → c .before .before .before .before .args .k * c .record-length .result ≤ 10000000
+short c = omega (arith, at-most (c .before .before .before .before .args .k) (c .record-length .result) (c .before .before .before .before .pre .2), c .record-length .ensures .1)
 
 loop-holds : tie.Need-loop-holds Inv-loop μ-loop
-unfolding plainCount roundDraws roundAt
-loop-holds c =
-    let s = c .before .before in
-    let w = c .new .ensures in
-    let z : s .args .n - 0 ≡ s .args .n = omega arith in
-    (w .1, w .0, omega (arith, s .pre), omega arith, omega arith, refl, refl, rw (w .2 (s .args .n), z))
-
-returns : tie.Need-returns Inv-loop μ-loop
-returns c =
-    let l = c .before .before .before .before .before .before .before .before .loop in
-    let s = c .before .before .before .before .before .before .before .before .before .before .before in
-    let f = s .args in
-    let e = count-ends (f .n) (f .k) (λ b. part (now (f .rankings)) (b * f .n) (f .n)) (l .count) (l .rounds) _ (omega (arith, l .inv .2)) (l .inv .7) (c .before .before .before .before .before .before .tally .ensures) (sym (c .before .before .before .closes .ensures) ∙ c .before .before .if1 .taken) in
-    let r : plainCount (f .n) (table (f .k) (λ b. part (now (f .rankings)) (b * f .n) (f .n))) .rounds ≡ l .rounds + 1 = ap (λ (r : Result). r .rounds) e ∙ ap (λ (x : ℕ). x + 1) (sheets-many (f .n) (l .count) (l .inv .0) ∙ l .inv .1) in
-    record {
-      rounds = sym r;
-      winner = c .before .wins .ensures .0 ∙ sym (ap (λ (r : Result). r .winner) e);
-      order = padded-order (l .count .gone) (l .inv .0 .listed) ∙ ap padded (sym (ap (λ (r : Result). r .order) e ∙ gone-is (f .n) (l .count)));
-      needed = draws-more (f .n) (f .k) (l .rounds) (l .needed) _ (l .inv .5) (c .before .before .before .before .before .record-draws .ensures .0) ∙ rw r;
-      length = length-more (f .n) (f .k) (l .rounds) (l .length) _ (l .inv .6) (c .before .before .before .before .record-length .ensures .0) ∙ rw r;
-      few = omega (arith, l .inv .2);
-      small = omega (arith, at-most (f .k) (c .before .before .before .before .before .record-draws .result) (omega (arith, s .pre)), c .before .before .before .before .before .record-draws .ensures .1, l .inv .2, l .inv .3, s .pre);
-    }
+unfolding roundDraws roundAt
+loop-holds c = (omega arith, refl, refl, omega arith, omega arith)
 
 loop-again : tie.Need-loop-again Inv-loop μ-loop
 loop-again c =
-    let l = c .before .before .before .before .before .before .before .before .loop in
-    let s = c .before .before .before .before .before .before .before .before .before .before .before in
-    let f = s .args in
-    let h = c .sheet .ensures in
-    let no = sym (c .before .before .before .closes .ensures) ∙ c .before .before .if1 .left in
-    let last = not-last (f .n) (standingOf (f .n) (l .count)) _ (f .k) (l .rounds) no (sheets-many (f .n) (l .count) (l .inv .0) ∙ l .inv .1) in
-    let few : f .k ≤ 1000 = omega (arith, s .pre) in (
-      h .1,
-      h .0 ∙ ap (λ (x : ℕ). x + 1) (l .inv .1),
-      far (l .rounds) (f .n) (l .inv .2) last,
-      omega (arith, at-most (f .k) (c .before .before .before .before .before .record-draws .result) few, c .before .before .before .before .before .record-draws .ensures .1, l .inv .3),
-      omega (arith, at-most (f .k) (c .before .before .before .before .record-length .result) few, c .before .before .before .before .record-length .ensures .1, l .inv .4, s .pre),
-      draws-more (f .n) (f .k) (l .rounds) (l .needed) _ (l .inv .5) (c .before .before .before .before .before .record-draws .ensures .0),
-      length-more (f .n) (f .k) (l .rounds) (l .length) _ (l .inv .6) (c .before .before .before .before .record-length .ensures .0),
-      count-goes (f .n) (f .k) (λ b. part (now (f .rankings)) (b * f .n) (f .n)) (l .count) (l .rounds) _ (omega (arith, l .inv .2)) (l .inv .7) (c .before .before .before .before .before .before .tally .ensures) no ∙ rw (h .2 (f .n), c .before .leaves .ensures .0),
+    let l = c .before .before .before .before .loop in
+    let f = c .before .before .before .before .before .args in (
+      omega arith,
+      draws-more (f .n) (f .k) (l .m) (l .needed) _ (l .inv .1) (c .before .before .record-draws .ensures .0),
+      length-more (f .n) (f .k) (l .m) (l .length) _ _ (l .inv .2) (c .before .record-length .ensures .0) (c .sheet-length .ensures .0),
+      omega (arith, few (c .before .before), l .inv .3),
+      omega (arith, short (c .before), c .sheet-length .ensures .1, l .inv .4),
     )
+
+returns : tie.Need-returns Inv-loop μ-loop
+returns c =
+    let l = c .before .loop in
+    let e : l .m ≡ c .before .before .args .rounds = omega arith in
+    (l .inv .1 ∙ rw e, l .inv .2 ∙ rw e, omega (arith, l .inv .3))
 
 pub measure-of-spec : {M : Type 1} → statement M
 measure-of-spec =
     tie.close
-    (tie.spec
-    Inv-loop
-    μ-loop
-    (λ c κs. search needs)
-    loop-holds
-    (λ c κs. let s = c .before .before .before .before in (omega (arith, s .pre), omega (arith, s .pre), omega (arith, s .pre), c .before .loop .inv .0 .listed))
-    (λ c κs. omega (arith, c .before .before .loop .inv .2, c .before .before .before .before .before .pre))
-    (λ c. let s = c .before .before .before .before .before .before in omega (arith, at-most (s .args .k) (c .record-draws .result) (omega (arith, s .pre)), c .record-draws .ensures .1, c .before .before .before .loop .inv .2, c .before .before .before .loop .inv .3, s .pre))
-    (λ c. let s = c .before .before .before .before .before .before in omega (arith, at-most (s .args .k) (c .record-draws .result) (omega (arith, s .pre)), c .record-draws .ensures .1, c .before .before .before .loop .inv .2, c .before .before .before .loop .inv .3, s .pre))
-    (λ c κs. omega (arith, c .before .before .before .loop .inv .2, c .before .before .before .before .before .before .pre))
-    (λ c. let s = c .before .before .before .before .before .before .before in omega (arith, at-most (s .args .k) (c .record-length .result) (omega (arith, s .pre)), c .record-length .ensures .1, c .before .before .before .before .loop .inv .2, c .before .before .before .before .loop .inv .4, s .pre))
-    (λ c. let s = c .before .before .before .before .before .before .before in omega (arith, at-most (s .args .k) (c .record-length .result) (omega (arith, s .pre)), c .record-length .ensures .1, c .before .before .before .before .loop .inv .2, c .before .before .before .before .loop .inv .4, s .pre))
-    (λ c. let s = c .before .before .before .before .before .before .before in omega (arith, at-most (s .args .k) (c .record-length .result) (omega (arith, s .pre)), c .record-length .ensures .1, c .before .before .before .before .loop .inv .2, c .before .before .before .before .loop .inv .4, s .pre))
-    (λ c. let s = c .before .before .before .before .before .before .before in omega (arith, at-most (s .args .k) (c .record-length .result) (omega (arith, s .pre)), c .record-length .ensures .1, c .before .before .before .before .loop .inv .2, c .before .before .before .before .loop .inv .4, s .pre))
-    (λ c. let s = c .before .before .before .before .before .before .before in omega (arith, at-most (s .args .k) (c .record-length .result) (omega (arith, s .pre)), c .record-length .ensures .1, c .before .before .before .before .loop .inv .2, c .before .before .before .before .loop .inv .4, s .pre))
-    (λ c. let s = c .before .before .before .before .before .before .before in omega (arith, c .before .before .before .before .loop .inv .2, s .pre))
-    (λ c. let s = c .before .before .before .before .before .before .before in omega (arith, s .pre))
-    (λ c κs. let s = c .before .before .before .before .before .before .before in (c .before .before .before .before .loop .inv .0, omega (arith, s .pre), omega (arith, s .pre)))
-    (λ c κs. let s = c .before .before .before .before .before .before .before .before .before in (c .before .before .before .before .before .before .loop .inv .0, omega (arith, s .pre)))
-    returns
-    (λ c κs. let s = c .before .before .before .before .before .before .before .before .before in (c .before .before .before .before .before .before .loop .inv .0, omega (arith, s .pre)))
-    (λ c κs. let s = c .before .before .before .before .before .before .before .before .before .before in let l = c .before .before .before .before .before .before .before .loop in (l .inv .0, omega (arith, l .inv .1, l .inv .2, s .pre), omega (arith, c .leaves .ensures .1, s .pre)))
-    (λ c. omega (arith, c .before .before .before .before .before .before .before .before .loop .inv .2))
-    loop-again)
+    (tie.spec Inv-loop μ-loop loop-holds (λ c κs. search needs) (λ c. omega (arith, few c)) (λ c. omega (arith, few c)) (λ c κs. search needs)
+    (λ c. omega (arith, short c)) (λ c κs. search needs) (λ c. omega (arith, short (c .before), c .sheet-length .ensures .1)) (λ c. omega (arith, short (c .before), c .sheet-length .ensures .1))
+    (λ c. omega arith) (λ c. omega arith) loop-again returns)

@@ -1,17 +1,16 @@
 use denote.Ref.{now}
-use Prim.Native.Nat.{ℕ, _+_, _-_}
-use mathlib.Core.Path.{_≡_, sym, _∙_}
-use mathlib.Core.Bool.{true}
+use Prim.Native.Nat.{ℕ, _+_, _*_, _-_, _≤_}
+use mathlib.Core.Path.{sym, _∙_}
+use native.Mathlib.Omega.{arith}
 use borrow.Author.Needs.{needs}
 use borrow.Author.Tests.{not-true, not-false}
 use Rattle.sha256.specs.Message.{sha256}
 use Rattle.rules.specs.Bytes.{half}
-use Rattle.rules.specs.Records.{BA}
+use Rattle.rules.specs.Records.{BA, ballotLength}
 use Rattle.rules.specs.Check.{recordFault}
+use Rattle.rules.proofs.Sizes.{cells}
 use Rattle.records.specs.Heads.{headOf}
-use Rattle.statements.proofs.Reading.{walk-to, walk-refused}
 use Rattle.records.specs.declared.Fault.the-variants.{Sound}
-use Rattle.records.specs.Sizes.{ballotSize}
 use Rattle.records.specs.Faults.{Framed}
 use Rattle.records.specs.Parts.{ballotFieldsAt, ballotProofsAt}
 use Rattle.records.proofs.Framing.{FiveTests, wrong-frame, wrong-field, wrong-proof, all-sound}
@@ -19,21 +18,18 @@ use Rattle.records.proofs.BallotTables.{ballot-table}
 use Rattle.records.proofs.ballot.ballot_fault.Statement.{statement}
 use Rattle.records.proofs.ballot.ballot_fault.Tie as tie
 
--- the frame and the fields are sound
+-- the frame is sound
 framed : (c : tie.After-enum-told) →
-    let a = c .before .before .before .before .before .before .args in Framed (now (a .board)) (a .at) (ballotSize (a .h .n)) BA
+    let a = c .before .before .before .before .before .before .args in Framed (now (a .board)) (a .at) (ballotLength (a .h .n)) BA
     (half (now (a .board)) (a .at + 2)) (a .k + 1) Sound
-framed c = rw (c .before .before .before .ballot-size .ensures, c .enum-told .given .1) at (c .before .before .ballot-frame .ensures)
+framed c = rw (c .before .before .before .ballot-length .ensures .0, c .enum-told .given .1) at (c .before .before .ballot-frame .ensures)
 
-walked : (c : tie.After-enum-told2) → let a = c .before .before .before .before .before .before .before .before .before .args in ballotFieldsAt (now (a .board)) (a .h .n) (a .h .setup .group .p) (a .h .setup .group .q) (a .at) ≡ true
-walked c =
-    let a = c .before .before .before .before .before .before .before .before .before .args in
-    walk-to (ballotFieldsAt (now (a .board)) (a .h .n) (a .h .setup .group .p) (a .h .setup .group .q) (a .at)) (a .at + ballotSize (a .h .n)) _
-    (sym (c .before .before .ballot-fields .ensures) ∙ c .enum-told2 .given .1) .0
+few : (c : tie.After-enum-told) → let a = c .before .before .before .before .before .before .args in a .h .n * a .h .n ≤ 64
+few c = cells (c .before .before .before .before .before .before .args .h .n) (c .before .before .before .before .before .before .pre .0 .high)
 
 table : (c : tie.After-group) (x : ℕ) →
     let a = c .before .before .args in
-    FiveTests (now (a .board)) (a .at) (ballotSize (a .h .n)) BA (half (now (a .board)) (a .at + 2)) (a .k + 1)
+    FiveTests (now (a .board)) (a .at) (ballotLength (a .h .n)) BA (half (now (a .board)) (a .at + 2)) (a .k + 1)
     (ballotFieldsAt (now (a .board)) (a .h .n) (a .h .setup .group .p) (a .h .setup .group .q) (a .at))
     (ballotProofsAt (now (a .board)) (a .h) (a .at))
     (recordFault sha256 (now (a .board)) (headOf (now (a .board)) (a .h)) x 0 (a .k))
@@ -44,38 +40,36 @@ table c x =
 returns : tie.Need-returns
 returns c =
     λ x. wrong-frame (table (c .before .before .before .before .before) x) _
-    (rw (c .before .before .before .before .ballot-size .ensures, c .before .framed .given .1) at (c .before .before .before .ballot-frame .ensures))
+    (rw (c .before .before .before .before .ballot-length .ensures .0, c .before .framed .given .1) at (c .before .before .before .ballot-frame .ensures))
 
-ballot-fields-requires : tie.Need-ballot-fields-requires
+fields-good-requires : tie.Need-fields-good-requires
 unfolding Framed
-ballot-fields-requires c κs = (c .before .before .before .before .before .before .pre .0 .high, framed c .0)
+fields-good-requires c κs = omega (arith, framed c .0)
 
 returns-2 : tie.Need-returns-2
 returns-2 c =
-    let a = c .before .before .before .before .before .before .before .before .before .args in
-    λ x. wrong-field (table (c .before .before .before .before .before .before .before) x) (framed (c .before .before .before))
-    (walk-refused (ballotFieldsAt (now (a .board)) (a .h .n) (a .h .setup .group .p) (a .h .setup .group .q) (a .at)) (a .at + ballotSize (a .h .n))
-    (sym (c .before .before .ballot-fields .ensures) ∙ c .enum-told3 .given .1))
+    λ x. wrong-field (table (c .before .before .before .before .before .before) x) (framed (c .before .before))
+    (sym (c .before .fields-good .ensures) ∙ not-true _ (c .if1 .taken))
 
 ballot-proofs-requires : tie.Need-ballot-proofs-requires
 unfolding Framed
-ballot-proofs-requires c κs =
-    (c .before .before .before .before .before .before .before .before .before .pre .0, framed (c .before .before .before) .0)
+ballot-proofs-requires c κs = (c .before .before .before .before .before .before .before .before .pre .0, framed (c .before .before) .0)
 
 returns-3 : tie.Need-returns-3
 returns-3 c =
-    λ x. wrong-proof (table (c .before .before .before .before .before .before .before .before .before) x)
-    (framed (c .before .before .before .before .before)) (walked (c .before .before))
-    (sym (c .before .ballot-proofs .ensures) ∙ not-true _ (c .if1 .taken))
+    let f = c .before .before .before in
+    λ x. wrong-proof (table (f .before .before .before .before .before) x) (framed (f .before))
+    (sym (f .fields-good .ensures) ∙ not-false _ (c .before .before .if1 .left)) (sym (c .before .ballot-proofs .ensures) ∙ not-true _ (c .if2 .taken))
 
 returns-4 : tie.Need-returns-4
 returns-4 c =
-    λ x. all-sound (table (c .before .before .before .before .before .before .before .before .before) x)
-    (framed (c .before .before .before .before .before)) (walked (c .before .before))
-    (sym (c .before .ballot-proofs .ensures) ∙ not-false _ (c .if1 .left))
+    let f = c .before .before .before in
+    λ x. all-sound (table (f .before .before .before .before .before) x) (framed (f .before))
+    (sym (f .fields-good .ensures) ∙ not-false _ (c .before .before .if1 .left)) (sym (c .before .ballot-proofs .ensures) ∙ not-false _ (c .if2 .left))
 
 pub ballot-fault-spec : {M : Type 1} → statement M
 ballot-fault-spec =
     tie.close
-    (tie.spec (λ c κs. search needs) (λ c. search needs) (λ c κs. search needs) (λ c. search needs) returns (λ c. search needs) ballot-fields-requires
-    (λ c. search needs) (λ c. search needs) returns-2 ballot-proofs-requires returns-3 returns-4)
+    (tie.spec (λ c κs. search needs) (λ c. search needs) (λ c κs. search needs) (λ c. search needs) returns (λ c. search needs)
+    (λ c. omega (arith, few c)) (λ c. omega (arith, few c)) (λ c. omega (arith, few c)) (λ c. omega (arith, few c))
+    (λ c. omega (arith, few c)) fields-good-requires returns-2 ballot-proofs-requires returns-3 returns-4)

@@ -14,9 +14,10 @@ returns c =
 
 returns-2 : tie.Need-returns-2
 returns-2 c =
-    let a = c .before .before .before .before .args in
-    closed (a .n) (a .k) (a .count) _ (a .out) (sym (c .before .before .before .closes .ensures) ∙ c .before .before .if1 .taken) (omega arith)
-    _ (c .wins .ensures .0)
+    let a = c .before .before .before .before .before .args in
+    let w = c .before .close .ensures in
+    closed (a .n) (a .k) (a .count) _ (a .out) (sym (c .before .before .before .before .closes .ensures) ∙ c .before .before .before .if1 .taken) (omega arith)
+    _ (w .0) (w .1) (w .2)
 
 returns-3 : tie.Need-returns-3
 returns-3 c =
@@ -31,7 +32,7 @@ returns-4 c =
     let a = c .before .before .before .before .before .args in
     let e = sym (c .before .before .before .before .closes .ensures) ∙ c .before .before .before .if1 .left in
     let out = c .before .before .leaves .ensures in
-    let after = c .sheet .ensures in
+    let after = c .next .ensures in
     opened (a .n) (a .k) (a .count) _ (a .out) e _ (out .0) (out .1) (omega arith) _ (after .0) (after .1) (after .2 (a .n))
 
 pub counted-spec : {M : Type 1} → statement M

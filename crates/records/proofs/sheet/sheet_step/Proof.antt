@@ -6,12 +6,11 @@ use native.Mathlib.Omega.{arith}
 use lib.ListN.{getD}
 use borrow.Author.Needs.{needs}
 use borrow.Author.Tests.{not-true, not-false}
-use Rattle.rules.specs.Records.{RT, recordAt}
+use Rattle.rules.specs.Records.{RT, recordAt, sheetLength}
 use Rattle.rules.specs.Check.{tallies, counts, due}
 use Rattle.count.specs.State.{standingOf, countsOn}
 use Rattle.records.specs.declared.Fault.the-variants.{Sound}
 use Rattle.records.specs.Heads.{headOf}
-use Rattle.records.specs.Sizes.{sheetSize}
 use Rattle.records.specs.Faults.{Framed, Counted}
 use Rattle.records.proofs.Places.{holds-pairs}
 use Rattle.records.proofs.SheetTable.{tallies-are, counts-are, wrong-frame, wrong-fields, wrong-tally, last-test}
@@ -21,7 +20,7 @@ use Rattle.records.proofs.sheet.sheet_step.Tie as tie
 
 -- what the tests passed so far say
 framed : (c : tie.After-enum-told) →
-    let a = c .before .before .before .before .args in Framed (now (a .board)) (a .at) (sheetSize (a .h .n)) RT (getD (now (a .board)) (a .at + 2) 0) (a .m + 1) Sound
+    let a = c .before .before .before .before .args in Framed (now (a .board)) (a .at) (sheetLength (a .h .n)) RT (getD (now (a .board)) (a .at + 2) 0) (a .m + 1) Sound
 framed c = rw (c .enum-told .given .1) at (c .before .before .sheet-frame .ensures)
 
 counted : (c : tie.After-enum-told2) →

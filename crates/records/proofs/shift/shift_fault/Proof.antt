@@ -1,18 +1,16 @@
 use denote.Ref.{now}
-use Prim.Native.Nat.{suc, _+_, _-_}
+use Prim.Native.Nat.{suc, _+_, _*_, _-_, _≤_}
 use mathlib.Core.Path.{_≡_, sym, _∙_}
-use mathlib.Core.Bool.{true}
 use native.Mathlib.Omega.{arith}
 use borrow.Author.Needs.{needs}
 use borrow.Author.Tests.{not-true, not-false}
 use Rattle.sha256.specs.Message.{sha256}
 use Rattle.rules.specs.Bytes.{half}
-use Rattle.rules.specs.Records.{SH}
+use Rattle.rules.specs.Records.{SH, shiftLength}
 use Rattle.rules.specs.Check.{recordFault}
+use Rattle.rules.proofs.Sizes.{few-pairs}
 use Rattle.records.specs.Heads.{headOf}
-use Rattle.statements.proofs.Reading.{walk-to, walk-refused}
 use Rattle.records.specs.declared.Fault.the-variants.{Sound}
-use Rattle.records.specs.Sizes.{shiftSize}
 use Rattle.records.specs.Faults.{Framed}
 use Rattle.records.specs.Parts.{shiftFieldsAt, shiftProofAt}
 use Rattle.records.proofs.Framing.{FiveTests, wrong-frame, wrong-field, wrong-proof, all-sound}
@@ -20,22 +18,22 @@ use Rattle.records.proofs.BallotTables.{shift-table}
 use Rattle.records.proofs.shift.shift_fault.Statement.{statement}
 use Rattle.records.proofs.shift.shift_fault.Tie as tie
 
--- the frame and the fields are sound
+-- the frame is sound
 framed : (c : tie.After-enum-told) →
-    let a = c .before .before .before .before .before .before .args in Framed (now (a .board)) (a .at) (shiftSize (a .h .n) (a .h .n - a .m - 1)) SH
+    let a = c .before .before .before .before .before .before .args in Framed (now (a .board)) (a .at) (shiftLength (a .h .n) (a .h .n - a .m - 1)) SH
     (half (now (a .board)) (a .at + 2)) (a .k + 1) Sound
-framed c = rw (c .before .before .before .shift-size .ensures, c .enum-told .given .1) at (c .before .before .ballot-frame .ensures)
+framed c = rw (c .before .before .before .shift-length .ensures .0, c .enum-told .given .1) at (c .before .before .ballot-frame .ensures)
 
-walked : (c : tie.After-enum-told2) → let a = c .before .before .before .before .before .before .before .before .before .args in shiftFieldsAt (now (a .board)) (a .h .n) (a .h .setup .group .p) (a .h .setup .group .q) (a .at) (a .h .n - a .m - 1) ≡ true
-walked c =
-    let a = c .before .before .before .before .before .before .before .before .before .args in
-    walk-to (shiftFieldsAt (now (a .board)) (a .h .n) (a .h .setup .group .p) (a .h .setup .group .q) (a .at) (a .h .n - a .m - 1))
-    (a .at + shiftSize (a .h .n) (a .h .n - a .m - 1)) _ (sym (c .before .before .shift-fields .ensures) ∙ c .enum-told2 .given .1) .0
+few : (c : tie.After-enum-told) → let a = c .before .before .before .before .before .before .args in (a .h .n - a .m - 1) * a .h .n ≤ 64
+few c =
+    let a = c .before .before .before .before .before .before .args in
+    let pre = c .before .before .before .before .before .before .pre .0 in
+    few-pairs (a .h .n - a .m - 1) (a .h .n) (omega (arith, pre .0 .high)) (pre .0 .high)
 
 table : (c : tie.After-group) →
     let a = c .before .before .args in
     let rows = a .h .n - a .m - 1 in
-    FiveTests (now (a .board)) (a .at) (shiftSize (a .h .n) rows) SH (half (now (a .board)) (a .at + 2)) (a .k + 1)
+    FiveTests (now (a .board)) (a .at) (shiftLength (a .h .n) rows) SH (half (now (a .board)) (a .at + 2)) (a .k + 1)
     (shiftFieldsAt (now (a .board)) (a .h .n) (a .h .setup .group .p) (a .h .setup .group .q) (a .at) rows)
     (shiftProofAt (now (a .board)) (a .h) (a .before) (a .at) rows (a .a - 1))
     (recordFault sha256 (now (a .board)) (headOf (now (a .board)) (a .h)) (a .a) (suc (a .m)) (a .k))
@@ -47,41 +45,40 @@ table c =
 returns : tie.Need-returns
 returns c =
     wrong-frame (table (c .before .before .before .before .before)) _
-    (rw (c .before .before .before .before .shift-size .ensures, c .before .framed .given .1) at (c .before .before .before .ballot-frame .ensures))
+    (rw (c .before .before .before .before .shift-length .ensures .0, c .before .framed .given .1) at (c .before .before .before .ballot-frame .ensures))
 
-shift-fields-requires : tie.Need-shift-fields-requires
+fields-good-requires : tie.Need-fields-good-requires
 unfolding Framed
-shift-fields-requires c κs = (omega arith, omega arith, framed c .0)
+fields-good-requires c κs = omega (arith, framed c .0)
 
 returns-2 : tie.Need-returns-2
 returns-2 c =
-    let a = c .before .before .before .before .before .before .before .before .before .args in
-    wrong-field (table (c .before .before .before .before .before .before .before)) (framed (c .before .before .before))
-    (walk-refused (shiftFieldsAt (now (a .board)) (a .h .n) (a .h .setup .group .p) (a .h .setup .group .q) (a .at) (a .h .n - a .m - 1))
-    (a .at + shiftSize (a .h .n) (a .h .n - a .m - 1)) (sym (c .before .before .shift-fields .ensures) ∙ c .enum-told3 .given .1))
+    wrong-field (table (c .before .before .before .before .before .before)) (framed (c .before .before))
+    (sym (c .before .fields-good .ensures) ∙ not-true _ (c .if1 .taken))
 
 shift-proof-requires : tie.Need-shift-proof-requires
 unfolding Framed
 shift-proof-requires c κs =
-    let a = c .before .before .before .before .before .before .before .before .before .args in
-    let pre = c .before .before .before .before .before .before .before .before .before .pre in
+    let a = c .before .before .before .before .before .before .before .before .args in
+    let pre = c .before .before .before .before .before .before .before .before .pre in
     let e : a .h .n - a .m ≡ a .h .n - a .m - 1 + 1 = omega arith in
-    ((pre .0 .0, omega arith, omega arith), (rw e at (pre .1 .2), framed (c .before .before .before) .0))
+    ((pre .0 .0, omega arith, omega arith), (rw e at (pre .1 .2), framed (c .before .before) .0))
 
 returns-3 : tie.Need-returns-3
 returns-3 c =
-    wrong-proof (table (c .before .before .before .before .before .before .before .before .before))
-    (framed (c .before .before .before .before .before)) (walked (c .before .before))
-    (sym (c .before .shift-proof .ensures) ∙ not-true _ (c .if1 .taken))
+    let f = c .before .before .before in
+    wrong-proof (table (f .before .before .before .before .before)) (framed (f .before))
+    (sym (f .fields-good .ensures) ∙ not-false _ (c .before .before .if1 .left)) (sym (c .before .shift-proof .ensures) ∙ not-true _ (c .if2 .taken))
 
 returns-4 : tie.Need-returns-4
 returns-4 c =
-    all-sound (table (c .before .before .before .before .before .before .before .before .before)) (framed (c .before .before .before .before .before))
-    (walked (c .before .before)) (sym (c .before .shift-proof .ensures) ∙ not-false _ (c .if1 .left))
+    let f = c .before .before .before in
+    all-sound (table (f .before .before .before .before .before)) (framed (f .before))
+    (sym (f .fields-good .ensures) ∙ not-false _ (c .before .before .if1 .left)) (sym (c .before .shift-proof .ensures) ∙ not-false _ (c .if2 .left))
 
 pub shift-fault-spec : {M : Type 1} → statement M
 shift-fault-spec =
     tie.close
     (tie.spec (λ c. search needs) (λ c. search needs) (λ c κs. search needs) (λ c. search needs) (λ c κs. search needs) (λ c. search needs) returns
-    (λ c. search needs) shift-fields-requires (λ c. search needs) (λ c. search needs) returns-2 (λ c. search needs) shift-proof-requires returns-3
+    (λ c. search needs) (λ c. omega (arith, few c)) (λ c. omega (arith, few c)) (λ c. omega (arith, few c)) fields-good-requires returns-2 (λ c. search needs) shift-proof-requires returns-3
     returns-4)

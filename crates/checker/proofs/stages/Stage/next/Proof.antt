@@ -3,10 +3,10 @@ use Rattle.checker.proofs.stages.Stage.next.Statement.{statement}
 use Rattle.checker.proofs.stages.Stage.next.Tie as tie
 
 returns : tie.Need-returns
-returns c = rw (c .shift-size .ensures)
+returns c = rw (c .shift-length .ensures .0, c .before .sheet-length .ensures .0)
 
 pub next-spec : {M : Type 1} → statement M
 next-spec =
     tie.close
-    (tie.spec (λ c. search needs) (λ c. search needs) (λ c. search needs) (λ c. search needs) (λ c. search needs) (λ c. search needs)
-    (λ c. search needs) (λ c. search needs) (λ c κs. search needs) returns)
+    (tie.spec (λ c. search needs) (λ c. search needs) (λ c. search needs) (λ c κs. search needs) (λ c. search needs) (λ c. search needs)
+    (λ c. search needs) (λ c κs. search needs) returns)

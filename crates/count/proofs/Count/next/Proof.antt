@@ -1,8 +1,8 @@
 use mathlib.Core.Path.{refl}
 use Rattle.count.proofs.Picks.{kept-next, standing-next}
 use borrow.Author.Needs.{needs}
-use Rattle.count.proofs.Count.sheet.Statement.{statement}
-use Rattle.count.proofs.Count.sheet.Tie as tie
+use Rattle.count.proofs.Count.next.Statement.{statement}
+use Rattle.count.proofs.Count.next.Tie as tie
 
 returns : tie.Need-returns
 returns c =
@@ -10,6 +10,6 @@ returns c =
     let k = c .before .before .before .pre in
     (refl, kept-next 0 (a .self) (a .sheet) _ (k .0) (k .1), λ n. standing-next n (a .self) (a .sheet) _ (k .0) (k .1))
 
-pub sheet-spec : {M : Type 1} → statement M
-sheet-spec =
+pub next-spec : {M : Type 1} → statement M
+next-spec =
     tie.close (tie.spec (λ c. search needs) (λ c. search needs) (λ c. search needs) (λ c. search needs) (λ c. search needs) returns)

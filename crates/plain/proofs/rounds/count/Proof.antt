@@ -1,0 +1,68 @@
+use Prim.Native.Nat.{ℕ, _+_, _-_, _*_, _≤_}
+use mathlib.Core.Path.{_≡_, sym, _∙_}
+use native.Mathlib.Omega.{arith}
+use denote.Ref.{now}
+use Rattle.rules.specs.Bytes.{part}
+use Rattle.rules.specs.Count.{plainCount, countFrom, table}
+use Rattle.rules.proofs.Leaving.{not-last}
+use Rattle.count.specs.State.{Kept, standingOf}
+use Rattle.count.proofs.Picks.{sheets-many}
+use Rattle.plain.proofs.Counted.{count-goes, count-ends, far}
+use borrow.Author.Needs.{needs}
+use Rattle.plain.proofs.rounds.count.Statement.{statement}
+use Rattle.plain.proofs.rounds.count.Tie as tie
+
+abbrev Inv-loop : tie.InvT-loop
+Inv-loop rankings n k count₀ count =
+    Kept count × (count .gone .outs + 2 ≤ n)
+    × (plainCount n (table k (λ b. part rankings (b * n) n)) ≡ countFrom n (table k (λ b. part rankings (b * n) n)) (n - count .gone .outs) (standingOf n count))
+
+abbrev μ-loop : tie.MeasureT-loop
+μ-loop rankings n k count₀ count = n - count .gone .outs
+
+loop-holds : tie.Need-loop-holds Inv-loop μ-loop
+unfolding plainCount
+loop-holds c =
+    let s = c .before .before in
+    let w = c .new .ensures in
+    let z : s .args .n - 0 ≡ s .args .n = omega arith in
+    (w .1, omega (arith, w .0, s .pre), rw (w .2 (s .args .n), w .0, z))
+
+returns : tie.Need-returns Inv-loop μ-loop
+returns c =
+    let l = c .before .before .before .before .before .loop in
+    let f = c .before .before .before .before .before .before .before .before .args in
+    let w = c .close .ensures in
+    let e = count-ends (f .n) (f .k) (λ b. part (now (f .rankings)) (b * f .n) (f .n)) (l .count) _ _ (omega (arith, l .inv .1)) (l .inv .2) (c .before .before .before .tally .ensures) (sym (c .before .before .closes .ensures) ∙ c .before .if1 .taken) in
+    (w .2 ∙ sym e, w .1, rw (w .0) (l .inv .1))
+
+loop-again : tie.Need-loop-again Inv-loop μ-loop
+loop-again c =
+    let l = c .before .before .before .before .before .before .loop in
+    let f = c .before .before .before .before .before .before .before .before .before .args in
+    let h = c .next .ensures in
+    let no = sym (c .before .before .before .closes .ensures) ∙ c .before .before .if1 .left in
+    let last = not-last (f .n) _ (standingOf (f .n) (l .count)) _ (f .k) (sheets-many (f .n) (l .count) (l .inv .0)) no in (
+      h .1,
+      rw (h .0) (far (l .count .gone .outs) (f .n) (l .inv .1) last),
+      count-goes (f .n) (f .k) (λ b. part (now (f .rankings)) (b * f .n) (f .n)) (l .count) _ _ (omega (arith, l .inv .1)) (l .inv .2) (c .before .before .before .before .tally .ensures) no
+          ∙ rw (h .2 (f .n), c .before .leaves .ensures .0, h .0),
+    )
+
+pub count-spec : {M : Type 1} → statement M
+count-spec =
+    tie.close
+    (tie.spec
+    Inv-loop
+    μ-loop
+    (λ c κs. search needs)
+    loop-holds
+    (λ c κs. let s = c .before .before .before .before in (omega (arith, s .pre), omega (arith, s .pre), omega (arith, s .pre), c .before .loop .inv .0 .listed))
+    (λ c. omega (arith, c .before .before .before .before .before .pre))
+    (λ c κs. let s = c .before .before .before .before .before in (c .before .before .loop .inv .0, omega (arith, s .pre), omega (arith, s .pre)))
+    (λ c κs. let s = c .before .before .before .before .before .before .before in let l = c .before .before .before .before .loop in (l .inv .0, omega (arith, l .inv .1, s .pre), omega (arith, s .pre)))
+    returns
+    (λ c κs. let s = c .before .before .before .before .before .before .before in (c .before .before .before .before .loop .inv .0, omega (arith, s .pre)))
+    (λ c κs. let s = c .before .before .before .before .before .before .before .before in let l = c .before .before .before .before .before .loop in (l .inv .0, omega (arith, l .inv .1, s .pre), omega (arith, c .leaves .ensures .1, s .pre)))
+    (λ c. omega (arith, c .next .ensures .0, c .before .before .before .before .before .before .loop .inv .1))
+    loop-again)

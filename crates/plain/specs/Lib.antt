@@ -1,2 +1,0 @@
--- What the code's plain count comes to.
-pub mod Measures
