@@ -40,7 +40,7 @@ static struct bytes read_all(FILE *stream)
 
 static int print_verdict(const uint8_t *board, size_t length)
 {
-    size_t answer[GOOSEOFTEN_CHECK_PLACES];
+    size_t answer[GOOSEOFTEN_CHECK_LENGTH];
     size_t code = gooseoften_check(board, length, answer);
     if (code != 0) {
         printf("refused %zu %zu\n", gooseoften_refusal_number(code),

@@ -7,8 +7,8 @@
 use std::io::{self, Read, Write};
 use std::process::ExitCode;
 
-/// The places of a check's answer: rounds, winner, and the order of going out in 8 places.
-const PLACES: usize = 10;
+/// The length of a check's answer: rounds, winner, and 8 numbers for the order of going out.
+const ANSWER: usize = 10;
 
 const ACCEPTED: u8 = 0;
 const REFUSED: u8 = 1;
@@ -16,7 +16,7 @@ const UNREAD: u8 = 2;
 
 #[link(name = "gooseoften", kind = "static")]
 extern "C" {
-    fn gooseoften_check(board: *const u8, board_length: usize, answer: *mut [usize; PLACES]) -> usize;
+    fn gooseoften_check(board: *const u8, board_length: usize, answer: *mut [usize; ANSWER]) -> usize;
 }
 
 enum Verdict {
@@ -26,7 +26,7 @@ enum Verdict {
 
 /// The verdict on a board. Every slice is allowed: the library asks nothing of the bytes.
 fn check(board: &[u8]) -> Verdict {
-    let mut answer = [0usize; PLACES];
+    let mut answer = [0usize; ANSWER];
     // SAFETY: the board is valid for the call, and the answer overlaps nothing else.
     let code = unsafe { gooseoften_check(board.as_ptr(), board.len(), &mut answer) };
     if code != 0 {

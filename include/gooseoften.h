@@ -4,7 +4,7 @@
  * read and write only what is lent. What they return and write is proved.
  *
  * The caller sees to it that each pointer has as many elements behind it as the length after it
- * says, that answer has its fixed number of places, that out and answer overlap nothing else that is
+ * says, that answer has its fixed length, that out and answer overlap nothing else that is
  * lent, and that nobody else writes to what is lent before the call returns. Where a length is 0 the
  * pointer may be anything, null too: nothing is read or written through it. answer is never null. */
 #ifndef GOOSEOFTEN_H
@@ -49,19 +49,19 @@ static inline size_t gooseoften_refusal_record(size_t code)
     return code / 256;
 }
 
-/* The places of the answer of an accepted or written board. A refusal leaves the answer as it was. */
+/* The numbers in the answer of an accepted or written board. A refusal leaves the answer as it was. */
 enum gooseoften_answer {
     GOOSEOFTEN_ROUNDS = 0,
     GOOSEOFTEN_WINNER = 1,
-    GOOSEOFTEN_ORDER = 2, /* 8 places: the rounds - 1 processes in their order of going out, then 0 */
-    GOOSEOFTEN_CHECK_PLACES = 10,
+    GOOSEOFTEN_ORDER = 2, /* 8 numbers: the rounds - 1 processes in their order of going out, then 0 */
+    GOOSEOFTEN_CHECK_LENGTH = 10,
     GOOSEOFTEN_BOARD_LENGTH = 10, /* of a written board */
-    GOOSEOFTEN_WRITE_PLACES = 11
+    GOOSEOFTEN_WRITE_LENGTH = 11
 };
 
 /* The verdict on a board. */
 size_t gooseoften_check(const uint8_t *board, size_t board_length,
-                        size_t answer[GOOSEOFTEN_CHECK_PLACES]);
+                        size_t answer[GOOSEOFTEN_CHECK_LENGTH]);
 
 /* Writes the board of a job to the front of out, or refuses and leaves out and answer as they were.
  * Rankings: a byte a place, one ranking after another. Draws are used in the order of the board;
@@ -71,7 +71,7 @@ size_t gooseoften_write(size_t n, size_t k, uint32_t p, uint32_t q, uint32_t g0,
                         const uint8_t *rankings, size_t rankings_length,
                         const uint32_t *draws, size_t draws_length,
                         uint8_t *out, size_t out_length,
-                        size_t answer[GOOSEOFTEN_WRITE_PLACES]);
+                        size_t answer[GOOSEOFTEN_WRITE_LENGTH]);
 
 #ifdef __cplusplus
 }

@@ -13,7 +13,7 @@ enum { ROOM = 1 << 20, FILL = 0xa5, N = 8, K = 2, DRAWS = 10000, BOARD = 1 << 16
 
 static uint8_t board[BOARD];
 static size_t length, code;
-static size_t answer[GOOSEOFTEN_WRITE_PLACES];
+static size_t answer[GOOSEOFTEN_WRITE_LENGTH];
 static ucontext_t caller, callee;
 
 static void check(void)

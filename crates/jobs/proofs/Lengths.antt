@@ -30,7 +30,7 @@ length-pairs n M rows =
     omega arith
 
 pub length-sheet : (q n K : ℕ) (draws : List ℕ) (from each m out : ℕ) (counts : List ℕ) → length (sheetBytes q n K draws from each m out counts) ≡ sheetLength n
-unfolding sheetBytes sheetLength
+unfolding sheetBytes
 length-sheet q n K draws from each m out counts = omega (arith, length-blocks n 6 (sheetColumn q n K draws from each counts) (λ _ _. refl))
 
 module _ (hash : List ℕ → List ℕ) (label : List ℕ) (g : Parameters) where
@@ -54,7 +54,7 @@ module _ (hash : List ℕ → List ℕ) (label : List ℕ) (g : Parameters) wher
     length-columns = length-proofs n 1 1 (columnProver g n list draws from) (λ _. refl) (λ _. refl)
 
     pub length-ballot : (number : ℕ) → length (ballotBytes hash label g n number list draws from) ≡ ballotLength n
-    unfolding ballotBytes ballotProofBytes ballotLength
+    unfolding ballotBytes ballotProofBytes
     length-ballot number =
         let p = length-pairs n (matrixOf g n list draws from) n in
         let e = length-entries in
@@ -64,7 +64,7 @@ module _ (hash : List ℕ → List ℕ) (label : List ℕ) (g : Parameters) wher
 
   pub length-shift : (n rows number : ℕ) (before after : ℕ → ℕ) (struck a : ℕ) (draws : List ℕ) (old new : ℕ) →
       length (shiftBytes hash label g n rows number before after struck a draws old new) ≡ shiftLength n rows
-  unfolding shiftBytes shiftLength
+  unfolding shiftBytes
   length-shift n rows number before after struck a draws old new =
       let p = length-pairs n (matrixOf g n after draws new) rows in
       let c = length-proof (shiftProver g n rows before after struck a draws old new) in
