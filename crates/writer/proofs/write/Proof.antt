@@ -15,7 +15,7 @@ use Rattle.writer.specs.Jobs.{jobOf}
 use Rattle.writer.specs.Steps.{Told, Passed, Measured, Put}
 use Rattle.writer.specs.declared.tests.Tested.{Tested}
 use Rattle.writer.proofs.Outcomes.{group-positive, measurable, measured, draws-are, stops-draws, stops-room, valid, refuses}
-use Rattle.writer.proofs.Boards.{bytesFor, can, room, writes}
+use Rattle.writer.proofs.Boards.{bytesFor, can, sheeted, room, writes}
 use borrow.Author.Needs.{needs}
 use Rattle.writer.proofs.write.Statement.{statement}
 use Rattle.writer.proofs.write.Tie as tie
@@ -70,7 +70,7 @@ put-board-requires c κs =
     let v = fair (n .before) in
     let m = n .before .before .before in
     let j = job (passed m) in (
-      (n .new .ensures .1, can j v _ _ (measured-is m) _ (group-is n), fine sha256 j v .labelled),
+      (n .new .ensures .1, can j v _ _ (measured-is m) _ (group-is n), sheeted j v _ _ (measured-is m) _ (group-is n), fine sha256 j v .labelled),
       room j v _ _ (measured-is m) _ (group-is n),
     )
 
