@@ -6,11 +6,10 @@ use mathlib.Core.Bool.{Bool, true, false}
 use mathlib.Core.List.{List, [], _∷_, _++_, append-assoc, append-nil}
 use native.Mathlib.Nat.{not-suc-le-zero, le-of-suc-le-suc, sub-zero}
 use native.Mathlib.Omega.{arith}
-use borrow.Author.Tests.{eqb-false}
 use lib.ListN.{length, getD, take, replicate, length-append}
 use lib.Seq.{take-at, getD-at}
 use Rattle.numbers.specs.Below.{blocks}
-use Rattle.numbers.proofs.Tests.{by-cases, or-false-left}
+use Rattle.numbers.proofs.Tests.{by-cases}
 use Rattle.group.specs.Elements.{Parameters}
 use Rattle.rules.specs.Answers.{padded}
 use Rattle.rules.specs.Count.{Standing, Result, start, next, leaves, closes, ended, table, isRanking, countsOf, countFrom, plainCount}
@@ -19,7 +18,7 @@ use Rattle.jobs.specs.Board.{recordBytes, sheetBytes, roundsFrom}
 use Rattle.rules.proofs.Lists.{length-table}
 use Rattle.whole.proofs.Lists.{standing-all, strike}
 use Rattle.whole.proofs.Rankings.{times, ranking-length, times-member, times-standing, length-struck, once, place-below}
-use Rattle.rules.proofs.Leaving.{In, leaves-in, rounds-over}
+use Rattle.rules.proofs.Leaving.{In, leaves-in, not-last as rounds-on, rounds-over}
 use Rattle.boards.specs.Parts.{recordsOf, roundOf}
 
 -- the order of going out only grows
@@ -156,10 +155,6 @@ module _ (hash : List ℕ → List ℕ) (job : Job) (g : Parameters) where
     not-last : j + 1 < R .rounds → closing ≡ false
     not-last h = by-cases closing (λ e. absurd (omega (arith, ap (λ (x : Result). x .rounds) (ends e), r .sheeted))) (λ e. e)
 
-    not-late : closing ≡ false → (j + 1 ≡ job .n - 1 → ⊥)
-    unfolding closes
-    not-late e h = eqb-false (length (r .st .sheets) + 1) (job .n - 1) (or-false-left _ _ e) (omega (arith, r .sheeted))
-
     onward : j + 1 < R .rounds → At (suc j)
     unfolding blocks
     onward h =
@@ -168,7 +163,7 @@ module _ (hash : List ℕ → List ℕ) (job : Job) (g : Parameters) where
           st = next (job .n) (r .st) (C (r .st .gone));
           before = r .st .gone;
           a = leaving;
-          early = omega (arith, r .early, not-late e);
+          early = omega (arith, r .early, rounds-on (job .n) j (r .st) (C (r .st .gone)) (job .K) (r .sheeted) e);
           sheeted = omega (arith, length-append (r .st .sheets) (C (r .st .gone) ∷ []), r .sheeted);
           out = omega (arith, length-append (r .st .gone) (leaving ∷ []), r .out);
           plain = goes e;
@@ -198,12 +193,6 @@ module _ (hash : List ℕ → List ℕ) (job : Job) (g : Parameters) where
 
     pub few-rounds : R .rounds + 1 ≤ job .n
     few-rounds = let r = walk (R .rounds - 1) (omega (arith, some)) in omega (arith, r .early, some)
-
-    pub order-long : length (R .order) ≡ R .rounds - 1
-    order-long =
-        let j = R .rounds - 1 in
-        let r = walk j (omega (arith, some)) in
-        ap (λ (x : Result). length (x .order)) (ends j r (is-last j r (omega (arith, some)))) ∙ r .out
 
     -- the process that goes out in a round was still in
     pub goes-out : (j : ℕ) → suc j < R .rounds → (take (suc j) o ≡ take j o ++ (getD o j 0 ∷ [])) × In (take j o) (job .n) (getD o j 0)

@@ -23,7 +23,5 @@ write-board-spec =
     (λ c κs. let p = c .before .before .before .before .before .before .pre in (omega (arith, p .0 .1 .n-high), omega (arith, p .0 .1 .K-high), p .1 .0, p .1 .1))
     (λ c. omega (arith, c .before .before .before .before .before .before .before .before .before .pre .1, c, c .before))
     (λ c. omega (arith, c .before .before .before .before .before .before .before .before .before .pre .1, c, c .before))
-    (λ c. omega (arith, c .before .before .before .before .before .before .before .before .before .pre .1, c, c .before))
-    write-rounds-requires
-    (λ c. search needs)
-    returns)
+    (λ c. omega (arith, c .before .before .before .before .before .before .before .before .before .pre .1, c, c .before)) write-rounds-requires
+    (λ c. search needs) returns)

@@ -77,19 +77,12 @@ part c = omega (arith, start (c .before), entry (c .before .before .before .befo
 pub write-round-spec : {M : Type 1} → statement M
 write-round-spec =
     tie.close
-    (tie.spec
-    (λ c. search needs)
-    (λ c. search needs)
+    (tie.spec (λ c. search needs) (λ c. search needs)
     (λ c κs. let s = c .before .before .before .before .before .before .before .before in (below s .0, below s .1, s .pre .0 .1 .K-high, s .pre .1 .0))
-    write-records-requires
-    (λ c κs. below (entry (c .before .before .before .before)))
+    write-records-requires (λ c κs. below (entry (c .before .before .before .before)))
     (λ c. omega (arith, start c, entry (c .before .before .before .before .before) .pre .1 .1, entry (c .before .before .before .before .before) .good))
-    (λ c κs. below (entry (c .before .before .before .before .before)))
-    (λ c. omega (arith, part c, c .before .before, c .before .before .before))
-    (λ c. omega (arith, part c, c .before .before, c .before .before .before))
-    (λ c. omega (arith, part c, c .before .before, c .before .before .before))
+    (λ c κs. below (entry (c .before .before .before .before .before))) (λ c. omega (arith, part c, c .before .before, c .before .before .before))
+    (λ c. omega (arith, part c, c .before .before, c .before .before .before)) (λ c. omega (arith, part c, c .before .before, c .before .before .before))
     (λ c κs. omega (arith, below (entry (c .before .before .before .before .before .before .before))))
     (λ c. omega (arith, below (entry (c .before .before .before .before .before .before .before .before)), entry (c .before .before .before .before .before .before .before .before) .good))
-    write-sheet-requires
-    (λ c. search needs)
-    returns)
+    write-sheet-requires (λ c. search needs) returns)

@@ -67,17 +67,11 @@ place c =
     let l = i .before .loop in
     omega (arith, length-more (f .size .n) (f .size .k) (l .m) (l .at + 54) (c .before .record-length .result) (c .sheet-length .result) (l .inv .3) (c .before .record-length .ensures .0) (c .sheet-length .ensures .0))
 
-inside : (c : tie.In-loop Inv-loop μ-loop) → let f = entry c .args in roundAt (f .size .n) (f .size .k) (c .before .loop .m + 1) ≤ length (now (f .out)) + 54
-inside c =
-    let f = entry c .args in
-    omega (arith, place-mono (f .size .n) (f .size .k) (c .before .loop .m + 1) (f .count .gone .outs + 1) (omega (arith, c .loop-test .taken, c .before .loop .inv .1)), entry c .pre .3)
-
--- the bytes of the round are no more
-bytes : (c : tie.After-record-length Inv-loop μ-loop) →
-    let i = c .before .before .before .before .before in entry i .args .size .k * c .record-length .result ≤ length (now (entry i .args .out))
-bytes c =
+-- and it is within the board
+inside : (c : tie.After-record-length Inv-loop μ-loop) →
     let i = c .before .before .before .before .before in
-    omega (arith, within i, ap (λ (x : ℕ). entry i .args .size .k * x) (c .record-length .ensures .0))
+    i .before .loop .at + entry i .args .size .k * c .record-length .result + sheetLength (entry i .args .size .n) ≤ length (now (entry i .args .out))
+inside c = let i = c .before .before .before .before .before in omega (arith, within i, ap (λ (x : ℕ). entry i .args .size .k * x) (c .record-length .ensures .0))
 
 draws-next : (c : tie.After-record-draws Inv-loop μ-loop) →
     let i = c .before .before .before .before .before .before .before in
@@ -118,25 +112,15 @@ returns c =
 pub write-rounds-spec : {M : Type 1} → statement M
 write-rounds-spec =
     tie.close
-    (tie.spec
-    Inv-loop
-    μ-loop
-    (λ c. omega (arith, c .before .before .before .before .before .pre .1 .few, c .before .before .before .before .before .pre .1 .n-high))
-    loop-holds
-    (λ c. omega (arith, within c, c .before .loop .inv .2))
-    (λ c. omega (arith, within c, c .before .loop .inv .2))
-    (λ c. omega (arith, within c, c .before .loop .inv .2))
-    write-round-requires
-    (λ c κs. below (c .before .before .before .before))
-    (λ c. omega (arith, bytes c, entry (c .before .before .before .before .before) .good))
-    (λ c κs. below (c .before .before .before .before .before) .0)
-    (λ c. omega (arith, place c, inside (c .before .before .before .before .before .before), entry (c .before .before .before .before .before .before) .good))
-    (λ c. omega (arith, place c, inside (c .before .before .before .before .before .before), entry (c .before .before .before .before .before .before) .good))
+    (tie.spec Inv-loop μ-loop
+    (λ c. omega (arith, c .before .before .before .before .before .pre .1 .few, c .before .before .before .before .before .pre .1 .n-high)) loop-holds
+    (λ c. omega (arith, within c, c .before .loop .inv .2)) (λ c. omega (arith, within c, c .before .loop .inv .2))
+    (λ c. omega (arith, within c, c .before .loop .inv .2)) write-round-requires (λ c κs. below (c .before .before .before .before))
+    (λ c. omega (arith, inside c, entry (c .before .before .before .before .before) .good)) (λ c κs. below (c .before .before .before .before .before) .0)
+    (λ c. omega (arith, inside (c .before), c .sheet-length .ensures, entry (c .before .before .before .before .before .before) .good))
+    (λ c. omega (arith, inside (c .before), c .sheet-length .ensures, entry (c .before .before .before .before .before .before) .good))
     (λ c κs. below (c .before .before .before .before .before .before))
     (λ c. omega (arith, draws-next c, near (c .before .before .before .before .before .before .before)))
     (λ c. omega (arith, draws-next c, near (c .before .before .before .before .before .before .before)))
     (λ c. omega (arith, below (c .before .before .before .before .before .before .before)))
-    (λ c. omega (arith, c .before .before .before .before .before .before .before .loop-test .taken))
-    loop-again
-    (λ c. search needs)
-    returns)
+    (λ c. omega (arith, c .before .before .before .before .before .before .before .loop-test .taken)) loop-again (λ c. search needs) returns)
