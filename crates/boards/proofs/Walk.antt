@@ -170,12 +170,6 @@ module _ (hash : List ℕ → List ℕ) (job : Job) (g : Parameters) (ranked : (
     pub few-rounds : R .rounds + 1 ≤ job .n
     few-rounds = let r = walk (R .rounds - 1) (omega (arith, some)) in omega (arith, r .count .early, some)
 
-    pub order-long : length (R .order) ≡ R .rounds - 1
-    order-long =
-        let j = R .rounds - 1 in
-        let r = walk j (omega (arith, some)) in
-        ap (λ (x : Result). length (x .order)) (plain-closed job ranked (r .count) (is-last j r (omega (arith, some)))) ∙ r .count .out
-
     -- the process that goes out in a round was still in
     pub goes-out : (j : ℕ) → suc j < R .rounds → (take (suc j) o ≡ take j o ++ (getD o j 0 ∷ [])) × In (take j o) (job .n) (getD o j 0)
     goes-out j h =

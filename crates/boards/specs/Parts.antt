@@ -10,7 +10,9 @@ use Rattle.jobs.specs.Job as J
 use Rattle.jobs.specs.Job.{rankingOf, roundDraws, standing, placeOf}
 use Rattle.jobs.specs.Board.{recordBytes, jobSheet}
 use Rattle.proving.specs.Plans.{Spread}
-use Rattle.count.specs.State.{listOf, Listed}
+use Rattle.count.specs.State.{countsOn, listOf, Listed}
+use Rattle.count.specs.declared.Sheet.{Sheet}
+use Rattle.count.specs.declared.Count.{Count}
 use Rattle.boards.specs.declared.Size.{Size}
 use Rattle.boards.specs.declared.records.Turn.{Turn}
 
@@ -66,6 +68,12 @@ pub record Able (job : J.Job) (order : List ℕ) (rounds : ℕ) : Type 0 where
   pub below : (j : ℕ) → suc j < rounds → getD order j 0 ≤ job .n
   pub left : (j k : ℕ) → j < rounds → k < job .K → length (standing (take j order) (rankingOf job k)) ≡ job .n - j
   pub place : (j k : ℕ) → suc j < rounds → k < job .K → placeOf (getD order j 0) (standing (take j order) (rankingOf job k)) < job .n - j
+
+-- the sheets of a count that has ended hold the counts of its rounds
+abbrev pub Sheeted : J.Job → Count → Type 0
+Sheeted job c =
+    (t : Sheet) (m : ℕ) → m ≤ c .gone .outs →
+    countsOn (job .n) (getD (c .sheets) m t) ≡ countsOf (job .n) (table (job .K) (rankingOf job)) (take m (c .gone .order))
 
 module _ (hash : List ℕ → List ℕ) (job : J.Job) (g : Parameters) (order : List ℕ) where
   -- the ballots or shifts of round m: before the round before it the first m - 1 had gone out

@@ -4,9 +4,9 @@ use crate::header;
 use crate::records;
 use crate::records::Turn;
 use crate::sheet;
+use count::Count;
 use plain::rankings;
 use plain::rounds;
-use plain::votes;
 use statements::Setup;
 ghost use mathlib.Core.Path.{_≡_};
 ghost use mathlib.Core.List.{_++_};
@@ -20,7 +20,7 @@ ghost use Rattle.jobs.specs.Job.{roundDraws};
 ghost use Rattle.jobs.specs.Board.{headerBytes};
 ghost use Rattle.output.specs.Written.{written};
 ghost use Rattle.statements.specs.Values.{Ready};
-ghost use Rattle.boards.specs.Parts.{boardJob, Told, Able, roundOf};
+ghost use Rattle.boards.specs.Parts.{boardJob, Told, Able, Sheeted, roundOf};
 
 // Round m of a board whose processes go out in an order; its draws start at a place.
 fn turn_of(size: Size, order: [u8; 8], m: usize, from: usize) -> Turn
@@ -50,7 +50,7 @@ fn turn_of(size: Size, order: [u8; 8], m: usize, from: usize) -> Turn
     }
 }
 
-// Its records, and its sheet.
+// Its records, and its sheet as it was counted.
 fn write_round(
     out: &mut [u8],
     label: &[u8],
@@ -58,21 +58,24 @@ fn write_round(
     size: Size,
     rankings: &[u8],
     draws: &[u32],
-    order: [u8; 8],
+    count: Count,
     m: usize,
     from: usize,
 )
-    requires { ⌜ Ready g × Able (boardJob size (parametersOf (g .group)) (now label) (now rankings) (now draws)) order (suc m) × (from ≡ roundDraws (size .n) (size .k) m) × (size .k * recordLength (size .n) m + sheetLength (size .n) ≤ length (now out)) ⌝ }
-    ensures { λ _. ⌜ now (out .exit) ≡ written (roundOf sha256 (boardJob size (parametersOf (g .group)) (now (label .entry)) (now (rankings .entry)) (now (draws .entry))) (parametersOf (g .group)) order m) (now (out .entry)) ⌝ }
+    requires { ⌜ Ready g × Able (boardJob size (parametersOf (g .group)) (now label) (now rankings) (now draws)) (count .gone .order) (suc m) × Sheeted (boardJob size (parametersOf (g .group)) (now label) (now rankings) (now draws)) count × (m ≤ count .gone .outs) ⌝ }
+    requires { ⌜ (from ≡ roundDraws (size .n) (size .k) m) × (size .k * recordLength (size .n) m + sheetLength (size .n) ≤ length (now out)) ⌝ }
+    ensures { λ _. ⌜ now (out .exit) ≡ written (roundOf sha256 (boardJob size (parametersOf (g .group)) (now (label .entry)) (now (rankings .entry)) (now (draws .entry))) (parametersOf (g .group)) (count .gone .order) m) (now (out .entry)) ⌝ }
 {
     let n = size.n;
     let k = size.k;
+    let gone = count.gone;
+    let order = gone.order;
+    let sheets = count.sheets;
+    let sheet = sheets[m];
     let turn = turn_of(size, order, m, from);
     records::write_records(out, label, g, size, rankings, draws, turn);
     let at = k * layout::record_length(n, m);
     let stride = rounds::record_draws(n, m);
-    let gone = turn.gone;
-    let counts = votes::tally(rankings, n, k, gone);
     let q = g.group.q;
     sheet::write_sheet(
         &mut out[at..],
@@ -80,7 +83,7 @@ fn write_round(
         n,
         numbers::low(m),
         order[m],
-        counts,
+        sheet,
         draws,
         from,
         stride,
@@ -95,17 +98,17 @@ fn write_rounds(
     size: Size,
     rankings: &[u8],
     draws: &[u32],
-    order: [u8; 8],
-    count: usize,
+    count: Count,
 )
-    requires { ⌜ Ready g × Able (boardJob size (parametersOf (g .group)) (now label) (now rankings) (now draws)) order count × (roundAt (size .n) (size .k) count ≤ length (now out) + headerLength) ⌝ }
-    ensures { λ _. ⌜ now (out .exit) ≡ written (blocks count (roundOf sha256 (boardJob size (parametersOf (g .group)) (now (label .entry)) (now (rankings .entry)) (now (draws .entry))) (parametersOf (g .group)) order)) (now (out .entry)) ⌝ }
+    requires { ⌜ Ready g × Able (boardJob size (parametersOf (g .group)) (now label) (now rankings) (now draws)) (count .gone .order) (count .gone .outs + 1) × Sheeted (boardJob size (parametersOf (g .group)) (now label) (now rankings) (now draws)) count × (roundAt (size .n) (size .k) (count .gone .outs + 1) ≤ length (now out) + headerLength) ⌝ }
+    ensures { λ _. ⌜ now (out .exit) ≡ written (blocks (count .gone .outs + 1) (roundOf sha256 (boardJob size (parametersOf (g .group)) (now (label .entry)) (now (rankings .entry)) (now (draws .entry))) (parametersOf (g .group)) (count .gone .order))) (now (out .entry)) ⌝ }
 {
     let n = size.n;
     let k = size.k;
+    let end = count.gone.outs + 1;
     let mut at = 0;
     let mut from = 0;
-    for m in 0..count {
+    for m in 0..end {
         write_round(
             &mut out[at..],
             label,
@@ -113,7 +116,7 @@ fn write_rounds(
             size,
             rankings,
             draws,
-            order,
+            count,
             m,
             from,
         );
@@ -122,7 +125,7 @@ fn write_rounds(
     }
 }
 
-// The whole board.
+// The whole board of a count that has ended.
 pub fn write_board(
     out: &mut [u8],
     label: &[u8],
@@ -130,11 +133,11 @@ pub fn write_board(
     size: Size,
     rankings: &[u8],
     draws: &[u32],
-    order: [u8; 8],
-    count: usize,
+    count: Count,
 )
-    requires { ⌜ Ready g × Able (boardJob size (parametersOf (g .group)) (now label) (now rankings) (now draws)) order count × (length (now label) ≡ 32) × (headerLength ≤ length (now out)) × (roundAt (size .n) (size .k) count ≤ length (now out)) ⌝ }
-    ensures { λ _. ⌜ now (out .exit) ≡ written (headerBytes sha256 (boardJob size (parametersOf (g .group)) (now (label .entry)) (now (rankings .entry)) (now (draws .entry))) (parametersOf (g .group)) ++ blocks count (roundOf sha256 (boardJob size (parametersOf (g .group)) (now (label .entry)) (now (rankings .entry)) (now (draws .entry))) (parametersOf (g .group)) order)) (now (out .entry)) ⌝ }
+    requires { ⌜ Ready g × Able (boardJob size (parametersOf (g .group)) (now label) (now rankings) (now draws)) (count .gone .order) (count .gone .outs + 1) × Sheeted (boardJob size (parametersOf (g .group)) (now label) (now rankings) (now draws)) count ⌝ }
+    requires { ⌜ (length (now label) ≡ 32) × (headerLength ≤ length (now out)) × (roundAt (size .n) (size .k) (count .gone .outs + 1) ≤ length (now out)) ⌝ }
+    ensures { λ _. ⌜ now (out .exit) ≡ written (headerBytes sha256 (boardJob size (parametersOf (g .group)) (now (label .entry)) (now (rankings .entry)) (now (draws .entry))) (parametersOf (g .group)) ++ blocks (count .gone .outs + 1) (roundOf sha256 (boardJob size (parametersOf (g .group)) (now (label .entry)) (now (rankings .entry)) (now (draws .entry))) (parametersOf (g .group)) (count .gone .order))) (now (out .entry)) ⌝ }
 {
     let group = g.group;
     header::write_header(out, size, group, label);
@@ -145,7 +148,6 @@ pub fn write_board(
         size,
         rankings,
         draws,
-        order,
         count,
     );
 }

@@ -29,21 +29,17 @@ pub struct Numbers {
     pub length: usize,
 }
 
-fn index(x: u32) -> usize {
-    x as usize
-}
-
 pub fn numbers_at(s: &[u8], at: usize) -> Numbers
     requires { ⌜ at + 28 ≤ length (now s) ⌝ }
 {
     Numbers {
-        n: index(fields::word(s, at)),
-        k: index(fields::word(s, at + 4)),
+        n: numbers::wide32(fields::word(s, at)),
+        k: numbers::wide32(fields::word(s, at + 4)),
         p: fields::word(s, at + 8),
         q: fields::word(s, at + 12),
         g0: fields::word(s, at + 16),
         counter: (fields::word(s, at + 20) % 256) as u8,
-        length: index(fields::word(s, at + 24)),
+        length: numbers::wide32(fields::word(s, at + 24)),
     }
 }
 

@@ -1,4 +1,4 @@
 // The plain count of rankings, a byte a place, and what the board of a job comes to.
 pub mod rankings;
 pub mod rounds;
-pub mod votes;
+mod votes;

@@ -1,3 +1,3 @@
-// What the test programs share: their input cut into pieces, and answers printed on a line.
+// What the test programs share: their input read and cut into pieces, and answers printed on a line.
 pub mod input;
 pub mod print;

@@ -12,8 +12,8 @@ use Rattle.sha256.specs.Message.{sha256}
 use Rattle.group.specs.Elements.{Parameters}
 use Rattle.rules.specs.Answers.{padded}
 use Rattle.rules.specs.Records.{roundAt}
-use Rattle.rules.specs.Count.{Result}
-use Rattle.jobs.specs.Job.{Job, groupOf, needed, boardLength, plainResult, roundDraws, rankingOf}
+use Rattle.rules.specs.Count.{Result, table}
+use Rattle.jobs.specs.Job.{Job, groupOf, rankingOf, needed, boardLength, plainResult, roundDraws}
 use Rattle.jobs.specs.Board.{headerBytes, boardBytes, board}
 use Rattle.jobs.specs.Write.{boardWritten, writeOutcome, writeOutput, Valid}
 use Rattle.jobs.specs.Replies.{outcomeOf}
@@ -23,10 +23,11 @@ use Rattle.jobs.proofs.FineJob.{fine, good-group, no-refusal}
 use Rattle.count.specs.State.{listOf, resultOf}
 use Rattle.count.specs.declared.Ended.{Ended}
 use Rattle.count.proofs.Picks.{padded-order}
+use Rattle.plain.proofs.Sheets.{sheets-are}
 use Rattle.plain.specs.declared.rounds.Measure.{Measure}
 use Rattle.output.specs.Written.{written}
 use Rattle.boards.specs.declared.Size.{Size}
-use Rattle.boards.specs.Parts.{boardJob, Able, roundOf}
+use Rattle.boards.specs.Parts.{boardJob, Able, Sheeted, roundOf}
 use Rattle.boards.proofs.Walk.{rounds-are, few-rounds, goes-out, left, struck-below}
 use Rattle.boards.proofs.Stages.{length-rounds, length-header, place-least}
 use Rattle.writer.specs.Steps.{Measured, bytesOf}
@@ -118,6 +119,9 @@ module _ (job : Job) (v : Valid sha256 job) where
     can =
         subst (λ (x : Parameters). Able (boardJob (size job) x (job .label) (job .rankings) (job .draws)) (c .count .gone .order) rounds) (sym e)
         (able (c .count .gone .order) rounds order-counted rounds-counted (rw (rounds-counted, ← (w .needed)) (w .small)))
+
+    pub sheeted : Sheeted (boardJob (size job) g (job .label) (job .rankings) (job .draws)) (c .count)
+    sheeted = sheets-are (job .n) (table (job .K) (rankingOf job)) c (w .counted)
 
     pub room : (54 ≤ m .length) × (roundAt (job .n) (job .K) rounds ≤ m .length)
     unfolding boardLength

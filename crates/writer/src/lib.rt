@@ -20,7 +20,7 @@ ghost use Rattle.jobs.specs.Write.{boardWritten, jobRefused, writeOutcome, writ
 ghost use Rattle.jobs.specs.Replies.{outcomeOf, orderWritten};
 ghost use Rattle.statements.specs.Values.{Ready};
 ghost use Rattle.count.specs.State.{listOf, Kept};
-ghost use Rattle.boards.specs.Parts.{boardJob, Able};
+ghost use Rattle.boards.specs.Parts.{boardJob, Able, Sheeted};
 ghost use Rattle.writer.specs.Jobs.{jobOf};
 ghost use Rattle.writer.specs.Steps.{bytesOf, Put};
 
@@ -72,16 +72,14 @@ fn put_board(
     count: Count,
     room: usize,
 ) -> bool
-    requires { ⌜ Ready g × Able (boardJob size (parametersOf (g .group)) (now label) (now rankings) (now draws)) (count .gone .order) (count .gone .outs + 1) × (length (now label) ≡ 32) ⌝ }
+    requires { ⌜ Ready g × Able (boardJob size (parametersOf (g .group)) (now label) (now rankings) (now draws)) (count .gone .order) (count .gone .outs + 1) × Sheeted (boardJob size (parametersOf (g .group)) (now label) (now rankings) (now draws)) count × (length (now label) ≡ 32) ⌝ }
     requires { ⌜ (headerLength ≤ room) × (roundAt (size .n) (size .k) (count .gone .outs + 1) ≤ room) ⌝ }
     ensures { λ r. ⌜ Put room (bytesOf size (parametersOf (g .group)) (now (label .entry)) (now (rankings .entry)) (now (draws .entry)) (count .gone .order) (count .gone .outs + 1)) (now (out .entry)) (now (out .exit)) r ⌝ }
 {
     if out.len() < room {
         return false;
     }
-    let gone = count.gone;
-    let order = gone.order;
-    rounds::write_board(out, label, g, size, rankings, draws, order, gone.outs + 1);
+    rounds::write_board(out, label, g, size, rankings, draws, count);
     true
 }
 

@@ -14,7 +14,7 @@ use Rattle.writer.specs.Jobs.{jobOf}
 use Rattle.writer.specs.Steps.{Told, Measured, Put}
 use Rattle.writer.specs.declared.tests.Tested.{Tested}
 use Rattle.writer.proofs.Outcomes.{group-positive, measurable, measured, draws-are, stops-draws, stops-room, refuses}
-use Rattle.writer.proofs.Boards.{bytesFor, can, room, writes}
+use Rattle.writer.proofs.Boards.{bytesFor, can, sheeted, room, writes}
 use borrow.Author.Needs.{needs}
 use Rattle.writer.proofs.write.Statement.{statement}
 use Rattle.writer.proofs.write.Tie as tie
@@ -69,7 +69,7 @@ put-board-requires c κs =
     let v = fair (n .before) in
     let m = n .before .before .before in
     let j = job (passed m) in (
-      (n .new .ensures .1, can j v _ _ (measured-is m) _ (group-is n), fine sha256 j v .labelled),
+      (n .new .ensures .1, can j v _ _ (measured-is m) _ (group-is n), sheeted j v _ _ (measured-is m) _ (group-is n), fine sha256 j v .labelled),
       room j v _ _ (measured-is m) _ (group-is n),
     )
 
@@ -100,23 +100,9 @@ returns-4 c =
 pub write-spec : {M : Type 1} → statement M
 write-spec =
     tie.close
-    (tie.spec
-    (λ c κs. search needs)
-    (λ c. search needs)
-    (λ c. search needs)
-    (λ c κs. search needs)
-    returns
-    (λ c κs. measurable (job c) (sound c .0))
+    (tie.spec (λ c κs. search needs) (λ c. search needs) (λ c. search needs) (λ c κs. search needs) returns (λ c κs. measurable (job c) (sound c .0))
     (λ c. omega (arith, c .before .before .count .ensures .1 .listed .few))
     (λ c κs. let w = measurable (job (c .before .before .before)) (sound (c .before .before .before) .0) in (w .1, omega (arith, c .before .before .count .ensures .2), w .2))
-    (λ c κs. search needs)
-    (λ c κs. search needs)
-    returns-2
-    (λ c κs. let t = passed (c .before .before) in group-positive (job t) _ (sound t .1) (sound t .0 .ordered))
-    put-board-requires
-    (λ c κs. search needs)
-    (λ c. search needs)
-    returns-3
-    (λ c κs. measured-is (at (c .before .before .before)) .kept)
-    (λ c. search needs)
-    returns-4)
+    (λ c κs. search needs) (λ c κs. search needs) returns-2
+    (λ c κs. let t = passed (c .before .before) in group-positive (job t) _ (sound t .1) (sound t .0 .ordered)) put-board-requires (λ c κs. search needs)
+    (λ c. search needs) returns-3 (λ c κs. measured-is (at (c .before .before .before)) .kept) (λ c. search needs) returns-4)

@@ -11,19 +11,17 @@ use Rattle.boards.proofs.rounds.write_board.Tie as tie
 write-rounds-requires : tie.Need-write-rounds-requires
 write-rounds-requires c κs =
     let p = c .before .before .before .before .before .before .before .before .before .before .pre in
-    (p .0, p .1, simp (length-take, length-drop) (omega (arith, p .3, p .4, c .before, c .before .before)))
+    (p .0 .0, p .0 .1, p .0 .2, simp (length-take, length-drop) (omega (arith, p .1, c .before, c .before .before)))
 
 returns : tie.Need-returns
-returns c = let p = c .before .before .before .before .before .before .before .before .before .before .before .before .before .pre in more _ _ _ _ _ _ (length-header (now (c .before .before .before .before .before .before .before .before .before .before .before .before .before .args .label)) (p .2)) (c .before .before .before .before .before .before .write-header .ensures) (c .before .before .write-rounds .ensures)
+returns c = let p = c .before .before .before .before .before .before .before .before .before .before .before .before .before .pre in more _ _ _ _ _ _ (length-header (now (c .before .before .before .before .before .before .before .before .before .before .before .before .before .args .label)) (p .1 .0)) (c .before .before .before .before .before .before .write-header .ensures) (c .before .before .write-rounds .ensures)
 
 pub write-board-spec : {M : Type 1} → statement M
 write-board-spec =
     tie.close
     (tie.spec
-    (λ c κs. let p = c .before .before .before .before .before .before .pre in (omega (arith, p .1 .n-high), omega (arith, p .1 .K-high), p .2, p .3))
-    (λ c. omega (arith, c .before .before .before .before .before .before .before .before .before .pre .3, c, c .before))
-    (λ c. omega (arith, c .before .before .before .before .before .before .before .before .before .pre .3, c, c .before))
-    (λ c. omega (arith, c .before .before .before .before .before .before .before .before .before .pre .3, c, c .before))
-    write-rounds-requires
-    (λ c. search needs)
-    returns)
+    (λ c κs. let p = c .before .before .before .before .before .before .pre in (omega (arith, p .0 .1 .n-high), omega (arith, p .0 .1 .K-high), p .1 .0, p .1 .1))
+    (λ c. omega (arith, c .before .before .before .before .before .before .before .before .before .pre .1, c, c .before))
+    (λ c. omega (arith, c .before .before .before .before .before .before .before .before .before .pre .1, c, c .before))
+    (λ c. omega (arith, c .before .before .before .before .before .before .before .before .before .pre .1, c, c .before)) write-rounds-requires
+    (λ c. search needs) returns)

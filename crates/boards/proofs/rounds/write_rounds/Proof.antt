@@ -19,20 +19,20 @@ use Rattle.boards.proofs.rounds.write_rounds.Statement.{statement}
 use Rattle.boards.proofs.rounds.write_rounds.Tie as tie
 
 abbrev Inv-loop : tie.InvT-loop
-Inv-loop out₀ label g size rankings draws order count n k at₀ from₀ m₀ out at from m =
-    (m ≤ count) × (length out ≡ length out₀) × (at + 54 ≡ roundAt (size .n) (size .k) m) × (from ≡ roundDraws (size .n) (size .k) m)
-    × (out ≡ written (blocks m (roundOf sha256 (boardJob size (parametersOf (g .group)) label rankings draws) (parametersOf (g .group)) order)) out₀)
+Inv-loop out₀ label g size rankings draws count n k end at₀ from₀ m₀ out at from m =
+    (m ≤ end) × (end ≡ count .gone .outs + 1) × (length out ≡ length out₀) × (at + 54 ≡ roundAt (size .n) (size .k) m) × (from ≡ roundDraws (size .n) (size .k) m)
+    × (out ≡ written (blocks m (roundOf sha256 (boardJob size (parametersOf (g .group)) label rankings draws) (parametersOf (g .group)) (count .gone .order))) out₀)
 
 abbrev μ-loop : tie.MeasureT-loop
-μ-loop out₀ label g size rankings draws order count n k at₀ from₀ m₀ out at from m = count - m
+μ-loop out₀ label g size rankings draws count n k end at₀ from₀ m₀ out at from m = end - m
 
 loop-holds : tie.Need-loop-holds Inv-loop μ-loop
 unfolding blocks roundAt roundDraws
-loop-holds c = (omega arith, refl, refl, refl, none _)
+loop-holds c = (omega arith, refl, refl, refl, refl, none _)
 
 -- where the loop is entered
 abbrev entry : tie.In-loop Inv-loop μ-loop → tie.Start Inv-loop μ-loop
-entry c = c .before .before .before .before .before .before
+entry c = c .before .before .before .before .before .before .before
 
 -- the round and its end are within the board
 within : (c : tie.In-loop Inv-loop μ-loop) →
@@ -42,7 +42,7 @@ within c =
     let s = entry c in
     let f = s .args in
     let l = c .before .loop in
-    omega (arith, place-next (f .size .n) (f .size .k) (l .m), place-mono (f .size .n) (f .size .k) (l .m + 1) (f .count) (omega arith), s .pre .2, l .inv .2)
+    omega (arith, place-next (f .size .n) (f .size .k) (l .m), place-mono (f .size .n) (f .size .k) (l .m + 1) (f .count .gone .outs + 1) (omega (arith, l .inv .1)), s .pre .3, l .inv .3)
 
 write-round-requires : tie.Need-write-round-requires Inv-loop μ-loop
 write-round-requires c κs =
@@ -50,11 +50,11 @@ write-round-requires c κs =
     let f = s .args in
     let l = c .before .before .loop in
     let job = boardJob (f .size) (parametersOf (f .g .group)) (now (f .label)) (now (f .rankings)) (now (f .draws)) in
-    (s .pre .0, able-down job (f .order) (f .count) (l .m) (omega arith) (s .pre .1), l .inv .3, simp (length-take, length-drop) (omega (arith, within (c .before), l .inv .1)))
+    ((s .pre .0, able-down job (f .count .gone .order) (f .count .gone .outs + 1) (l .m) (omega (arith, l .inv .1)) (s .pre .1), s .pre .2, omega (arith, l .inv .1)), (l .inv .4, simp (length-take, length-drop) (omega (arith, within (c .before), l .inv .2))))
 
 -- the round's number is below that of processes
 below : (c : tie.In-loop Inv-loop μ-loop) → (entry c .args .size .n ≤ 8) × (c .before .loop .m < entry c .args .size .n)
-below c = (entry c .pre .1 .n-high, omega (arith, entry c .pre .1 .few, c .loop-test .taken))
+below c = (entry c .pre .1 .n-high, omega (arith, entry c .pre .1 .few, c .loop-test .taken, c .before .loop .inv .1))
 
 -- the next round's place
 place : (c : tie.After-sheet-length Inv-loop μ-loop) →
@@ -66,19 +66,13 @@ place c =
     let i = c .before .before .before .before .before .before in
     let f = entry i .args in
     let l = i .before .loop in
-    omega (arith, length-more (f .size .n) (f .size .k) (l .m) (l .at + 54) (c .before .record-length .result) (c .sheet-length .result) (l .inv .2) (c .before .record-length .ensures .0) (c .sheet-length .ensures .0))
+    omega (arith, length-more (f .size .n) (f .size .k) (l .m) (l .at + 54) (c .before .record-length .result) (c .sheet-length .result) (l .inv .3) (c .before .record-length .ensures .0) (c .sheet-length .ensures .0))
 
-inside : (c : tie.In-loop Inv-loop μ-loop) → let f = entry c .args in roundAt (f .size .n) (f .size .k) (c .before .loop .m + 1) ≤ length (now (f .out)) + 54
-inside c =
-    let f = entry c .args in
-    omega (arith, place-mono (f .size .n) (f .size .k) (c .before .loop .m + 1) (f .count) (omega (arith, c .loop-test .taken)), entry c .pre .2)
-
--- the bytes of the round are no more
-bytes : (c : tie.After-record-length Inv-loop μ-loop) →
-    let i = c .before .before .before .before .before in entry i .args .size .k * c .record-length .result ≤ length (now (entry i .args .out))
-bytes c =
+-- and it is within the board
+inside : (c : tie.After-record-length Inv-loop μ-loop) →
     let i = c .before .before .before .before .before in
-    omega (arith, within i, ap (λ (x : ℕ). entry i .args .size .k * x) (c .record-length .ensures .0))
+    i .before .loop .at + entry i .args .size .k * c .record-length .result + sheetLength (entry i .args .size .n) ≤ length (now (entry i .args .out))
+inside c = let i = c .before .before .before .before .before in omega (arith, within i, ap (λ (x : ℕ). entry i .args .size .k * x) (c .record-length .ensures .0))
 
 draws-next : (c : tie.After-record-draws Inv-loop μ-loop) →
     let i = c .before .before .before .before .before .before .before in
@@ -88,12 +82,12 @@ draws-next c =
     let i = c .before .before .before .before .before .before .before in
     let f = entry i .args in
     let l = i .before .loop in
-    draws-more (f .size .n) (f .size .k) (l .m) (l .from) (c .record-draws .result) (l .inv .3) (c .record-draws .ensures .0)
+    draws-more (f .size .n) (f .size .k) (l .m) (l .from) (c .record-draws .result) (l .inv .4) (c .record-draws .ensures .0)
 
 near : (c : tie.In-loop Inv-loop μ-loop) → let f = entry c .args in roundDraws (f .size .n) (f .size .k) (c .before .loop .m + 1) ≤ 10000000
 near c =
     let f = entry c .args in
-    omega (arith, draws-mono (f .size .n) (f .size .k) (c .before .loop .m + 1) (f .count) (omega (arith, c .loop-test .taken)), entry c .pre .1 .low)
+    omega (arith, draws-mono (f .size .n) (f .size .k) (c .before .loop .m + 1) (f .count .gone .outs + 1) (omega (arith, c .loop-test .taken, c .before .loop .inv .1)), entry c .pre .1 .low)
 
 loop-again : tie.Need-loop-again Inv-loop μ-loop
 loop-again c =
@@ -103,39 +97,31 @@ loop-again c =
     let g = parametersOf (f .g .group) in
     let job = boardJob (f .size) g (now (f .label)) (now (f .rankings)) (now (f .draws)) in (
       omega (arith, i .loop-test .taken),
+      l .inv .1,
       search needs,
       place (c .before),
       draws-next c,
-      rounds-more sha256 job g (f .order) (l .m) (l .at) _ (l .out) _ (l .inv .2) (l .inv .4) (c .before .before .before .before .before .write-round .ensures),
+      rounds-more sha256 job g (f .count .gone .order) (l .m) (l .at) _ (l .out) _ (l .inv .3) (l .inv .5) (c .before .before .before .before .before .write-round .ensures),
     )
 
 returns : tie.Need-returns Inv-loop μ-loop
 returns c =
     let l = c .before .loop in
-    let e : l .m ≡ c .before .before .before .before .before .before .args .count = omega arith in
-    l .inv .4 ∙ rw e
+    let e : l .m ≡ c .before .before .before .before .before .before .before .args .count .gone .outs + 1 = omega (arith, l .inv .1) in
+    l .inv .5 ∙ rw e
 
 pub write-rounds-spec : {M : Type 1} → statement M
 write-rounds-spec =
     tie.close
-    (tie.spec
-    Inv-loop
-    μ-loop
-    loop-holds
-    (λ c. omega (arith, within c, c .before .loop .inv .1))
-    (λ c. omega (arith, within c, c .before .loop .inv .1))
-    (λ c. omega (arith, within c, c .before .loop .inv .1))
-    write-round-requires
-    (λ c κs. below (c .before .before .before .before))
-    (λ c. omega (arith, bytes c, entry (c .before .before .before .before .before) .good))
-    (λ c κs. below (c .before .before .before .before .before) .0)
-    (λ c. omega (arith, place c, inside (c .before .before .before .before .before .before), entry (c .before .before .before .before .before .before) .good))
-    (λ c. omega (arith, place c, inside (c .before .before .before .before .before .before), entry (c .before .before .before .before .before .before) .good))
+    (tie.spec Inv-loop μ-loop
+    (λ c. omega (arith, c .before .before .before .before .before .pre .1 .few, c .before .before .before .before .before .pre .1 .n-high)) loop-holds
+    (λ c. omega (arith, within c, c .before .loop .inv .2)) (λ c. omega (arith, within c, c .before .loop .inv .2))
+    (λ c. omega (arith, within c, c .before .loop .inv .2)) write-round-requires (λ c κs. below (c .before .before .before .before))
+    (λ c. omega (arith, inside c, entry (c .before .before .before .before .before) .good)) (λ c κs. below (c .before .before .before .before .before) .0)
+    (λ c. omega (arith, inside (c .before), c .sheet-length .ensures, entry (c .before .before .before .before .before .before) .good))
+    (λ c. omega (arith, inside (c .before), c .sheet-length .ensures, entry (c .before .before .before .before .before .before) .good))
     (λ c κs. below (c .before .before .before .before .before .before))
     (λ c. omega (arith, draws-next c, near (c .before .before .before .before .before .before .before)))
     (λ c. omega (arith, draws-next c, near (c .before .before .before .before .before .before .before)))
     (λ c. omega (arith, below (c .before .before .before .before .before .before .before)))
-    (λ c. omega (arith, c .before .before .before .before .before .before .before .loop-test .taken))
-    loop-again
-    (λ c. search needs)
-    returns)
+    (λ c. omega (arith, c .before .before .before .before .before .before .before .loop-test .taken)) loop-again (λ c. search needs) returns)
