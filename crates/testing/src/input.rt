@@ -4,6 +4,7 @@ use libc::STDIN_FILENO;
 ghost use mathlib.Core.Path.{_≡_};
 ghost use Prim.Native.Nat.{ℕ, _≤_, _<_};
 ghost use lib.ListN.{length, getD};
+ghost use Rattle.io.specs.Counts.{Counts};
 ghost use Rattle.testing.specs.Input.{pieceAt};
 
 // An input is shorter than this.
@@ -18,7 +19,7 @@ pub fn room() -> [u8; LIMIT]
 
 // Standard input, read to the front of a room: its length. An input that fills the room is bad, and counts as empty.
 pub fn read(room: &mut [u8]) -> usize
-    ensures { λ r. ⌜ r ≤ length (now (room .exit)) ⌝ }
+    ensures { λ r. ⌜ Counts r (now (room .exit)) ⌝ }
 {
     let n = io::read_full(STDIN_FILENO, room);
     if n == room.len() {
