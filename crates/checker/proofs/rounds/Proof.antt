@@ -31,6 +31,15 @@ Inv-loop board at head n k count₀ stage₀ count stage =
 abbrev μ-loop : tie.MeasureT-loop
 μ-loop board at head n k count₀ stage₀ count stage = n - stage .m
 
+abbrev start-from-turn : tie.After-turn Inv-loop μ-loop → tie.Start Inv-loop μ-loop
+start-from-turn c = c .before .before .before .before .before
+
+abbrev start-from-accepted : tie.After-accepted Inv-loop μ-loop → tie.Start Inv-loop μ-loop
+start-from-accepted c = start-from-turn (c .before .before .before .before .before)
+
+abbrev start-from-next2 : tie.After-next2 Inv-loop μ-loop → tie.Start Inv-loop μ-loop
+start-from-next2 c = start-from-turn (c .before .before .before .before .before)
+
 loop-holds : tie.Need-loop-holds Inv-loop μ-loop
 loop-holds c =
     let a = c .before .before .before .args in
@@ -44,7 +53,7 @@ loop-holds c =
 returns : tie.Need-returns Inv-loop μ-loop
 unfolding Rounded
 returns c =
-    let a = c .before .before .before .before .before .before .before .before .before .args in
+    let a = (start-from-turn (c .before .before .before .before)) .args in
     let l = c .before .before .before .before .before .loop in
     let t = rw (c .before .before .round .given .1) at (c .before .before .before .before .turn .ensures) in
     let x = ends (now (a .board)) (headOf (now (a .board)) (a .h))
@@ -54,7 +63,7 @@ returns c =
 
 -- the round closes the board
 closes : (c : tie.After-known-told2 Inv-loop μ-loop) →
-    let a = c .before .before .before .before .before .before .before .before .args in
+    let a = (start-from-turn (c .before .before .before)) .args in
     let l = c .before .before .before .before .loop in
     Rounded (now (a .board)) (a .h) (l .count) (l .stage .m) (l .stage .a) (Closed (c .before .round2 .given .0 .0)) (c .before .before .before .turn .result .count)
 closes c = rw (c .before .round2 .given .1) at (c .before .before .before .turn .ensures)
@@ -62,7 +71,7 @@ closes c = rw (c .before .round2 .given .1) at (c .before .before .before .turn 
 returns-2 : tie.Need-returns-2 Inv-loop μ-loop
 unfolding Rounded
 returns-2 c =
-    let a = c .before .before .before .before .before .before .before .before .before .before .args in
+    let a = (start-from-accepted c) .args in
     let l = c .before .before .before .before .before .before .loop in
     let t = closes (c .before .before) in
     let x = ends (now (a .board)) (headOf (now (a .board)) (a .h))
@@ -80,30 +89,30 @@ accepted-requires c κs = closes (c .before) .2
 
 -- the round stays open
 opens : (c : tie.After-known-told3 Inv-loop μ-loop) →
-    let a = c .before .before .before .before .before .before .before .before .args in
+    let a = (start-from-turn (c .before .before .before)) .args in
     let l = c .before .before .before .before .loop in
     Rounded (now (a .board)) (a .h) (l .count) (l .stage .m) (l .stage .a) (Open (c .before .round3 .given .0 .0)) (c .before .before .before .turn .result .count)
 opens c = rw (c .before .round3 .given .1) at (c .before .before .before .turn .ensures)
 
 -- and its sheet is on the board
 room : (c : tie.After-known-told3 Inv-loop μ-loop) →
-    let a = c .before .before .before .before .before .before .before .before .args in
+    let a = (start-from-turn (c .before .before .before)) .args in
     let l = c .before .before .before .before .loop in l .stage .at + a .h .k * l .stage .size + sheetLength (a .h .n) ≤ length (now (a .board))
 unfolding Rounded
 room c =
-    let a = c .before .before .before .before .before .before .before .before .args in
+    let a = (start-from-turn (c .before .before .before)) .args in
     let l = c .before .before .before .before .loop in
     rw (sheet-at (now (a .board)) (a .h) (l .stage) (l .inv .0)) (opens c .2)
 
 next-requires : tie.Need-next-requires Inv-loop μ-loop
 next-requires c κs =
     let l = c .before .before .before .before .before .loop in
-    (c .before .before .before .before .before .before .before .before .before .pre .0 .high, omega (arith, l .inv .0 .round), omega (arith, room (c .before), c .before .before .before .before .before .before .before .before .before .good))
+    ((start-from-turn (c .before .before .before .before)) .pre .0 .high, omega (arith, l .inv .0 .round), omega (arith, room (c .before), (start-from-turn (c .before .before .before .before)) .good))
 
 loop-again : tie.Need-loop-again Inv-loop μ-loop
 unfolding Rounded
 loop-again c =
-    let a = c .before .before .before .before .before .before .before .before .before .before .args in
+    let a = (start-from-next2 c) .args in
     let l = c .before .before .before .before .before .before .loop in
     let o = opens (c .before .before) in
     rw (c .next2 .ensures) (
@@ -121,7 +130,4 @@ loop-again c =
 pub rounds-spec : {M : Type 1} → statement M
 rounds-spec =
     tie.close
-    (tie.spec Inv-loop μ-loop (λ c κs. search needs) (λ c κs. c .before .before .pre .0 .high) loop-holds
-    (λ c κs. (c .before .before .before .before .pre .0, c .loop .inv .0, c .loop .inv .2, c .loop .inv .1)) (λ c. search needs) (λ c κs. search needs) returns
-    (λ c. search needs) accepted-requires returns-2 (λ c. search needs) next-requires
-    (λ c. rw (c .next2 .ensures) (omega (arith, c .before .before .before .before .before .before .loop .inv .0 .round))) loop-again)
+    (tie.spec Inv-loop μ-loop (λ c κs. search needs) (λ c κs. c .before .before .pre .0 .high) loop-holds (λ c κs. (c .before .before .before .before .pre .0, c .loop .inv .0, c .loop .inv .2, c .loop .inv .1)) (λ c. search needs) (λ c κs. search needs) returns (λ c. search needs) accepted-requires returns-2 (λ c. search needs) next-requires (λ c. rw (c .next2 .ensures) (omega (arith, c .before .before .before .before .before .before .loop .inv .0 .round))) loop-again)

@@ -22,20 +22,26 @@ Inv-loop out₀ label g n list page draws from count c₀ out c =
 abbrev μ-loop : tie.MeasureT-loop
 μ-loop out₀ label g n list page draws from count c₀ out c = n * n - c
 
+abbrev start-from-loop : tie.At-loop Inv-loop μ-loop → tie.Start Inv-loop μ-loop
+start-from-loop c = c .before .before .before .before .before
+
+abbrev start-from-slice-known2 : tie.After-slice-known2 Inv-loop μ-loop → tie.Start Inv-loop μ-loop
+start-from-slice-known2 c = start-from-loop (c .before .before .before .before .before)
+
 loop-holds : tie.Need-loop-holds Inv-loop μ-loop
 unfolding blocks
 loop-holds c = (omega arith, refl, none _)
 
 write-entry-requires : tie.Need-write-entry-requires Inv-loop μ-loop
 write-entry-requires c κs =
-    let s = c .before .before .before .before .before .before .before in
+    let s = (start-from-loop (c .before .before)) in
     let p = s .pre .0 in
     ((p .0, p .1, p .2, omega arith, simp (length-take, length-drop) (omega (arith, p .3, c .before .before .loop .inv .1)), p .4), (s .pre .1 .0, s .pre .1 .1))
 
 loop-again : tie.Need-loop-again Inv-loop μ-loop
 loop-again c =
     let l = c .before .before .before .before .before .loop in
-    let f = c .before .before .before .before .before .before .before .before .before .before .args in (
+    let f = (start-from-slice-known2 c) .args in (
       omega arith,
       search needs,
       block-more (entryIn (now (f .label)) (parametersOf (f .g .group)) (f .n) (λ k. getD (f .list) k 0) (now (f .draws)) (f .from)) 32 (l .c) _ _ (l .out) _ (λ j h. length-proof _ _ _ _) (mul-comm 32 (l .c)) (l .inv .2) (c .before .before .write-entry .ensures),
@@ -51,18 +57,4 @@ returns c =
 pub write-entries-spec : {M : Type 1} → statement M
 write-entries-spec =
     tie.close
-    (tie.spec
-    Inv-loop
-    μ-loop
-    (λ c. let s = c .before .before .before .before in omega (arith, cells (s .args .n) (omega (arith, s .pre .0))))
-    loop-holds
-    (λ c. let s = c .before .before .before .before .before .before in omega (arith, cells (s .args .n) (omega (arith, s .pre .0))))
-    (λ c. omega (arith, c .before .before .before .before .before .before .pre .0, c .before .loop .inv .1))
-    (λ c. omega (arith, c .before .before .before .before .before .before .pre .0, c .before .loop .inv .1))
-    (λ c. omega (arith, c .before .before .before .before .before .before .pre .0, c .before .loop .inv .1))
-    write-entry-requires
-    (λ c. let s = c .before .before .before .before .before .before .before .before .before .before in omega (arith, cells (s .args .n) (omega (arith, s .pre .0)), c .before .before .before .before .loop-test .taken))
-    (λ c. search needs)
-    loop-again
-    (λ c. search needs)
-    returns)
+    (tie.spec Inv-loop μ-loop (λ c. let s = c .before .before .before .before in omega (arith, cells (s .args .n) (omega (arith, s .pre .0)))) loop-holds (λ c. let s = c .before .before .before .before .before .before in omega (arith, cells (s .args .n) (omega (arith, s .pre .0)))) (λ c. omega (arith, c .before .before .before .before .before .before .pre .0, c .before .loop .inv .1)) (λ c. omega (arith, c .before .before .before .before .before .before .pre .0, c .before .loop .inv .1)) (λ c. omega (arith, c .before .before .before .before .before .before .pre .0, c .before .loop .inv .1)) write-entry-requires (λ c. let s = (start-from-slice-known2 c) in omega (arith, cells (s .args .n) (omega (arith, s .pre .0)), c .before .before .before .before .loop-test .taken)) (λ c. search needs) loop-again (λ c. search needs) returns)

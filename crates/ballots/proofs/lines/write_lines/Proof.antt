@@ -22,20 +22,26 @@ Inv-loop out₀ label g page n draws from count t₀ out t =
 abbrev μ-loop : tie.MeasureT-loop
 μ-loop out₀ label g page n draws from count t₀ out t = n + n - t
 
+abbrev start-from-loop : tie.At-loop Inv-loop μ-loop → tie.Start Inv-loop μ-loop
+start-from-loop c = c .before .before .before .before .before
+
+abbrev start-from-slice-known2 : tie.After-slice-known2 Inv-loop μ-loop → tie.Start Inv-loop μ-loop
+start-from-slice-known2 c = start-from-loop (c .before .before .before .before .before)
+
 loop-holds : tie.Need-loop-holds Inv-loop μ-loop
 unfolding blocks
 loop-holds c = (omega arith, refl, λ M. none _)
 
 write-line-requires : tie.Need-write-line-requires Inv-loop μ-loop
 write-line-requires c κs =
-    let s = c .before .before .before .before .before .before .before in
+    let s = (start-from-loop (c .before .before)) in
     let p = s .pre .0 in
     ((p .0, p .1, p .2, omega arith, simp (length-take, length-drop) (omega (arith, p .3, c .before .before .loop .inv .1))), s .pre .1)
 
 loop-again : tie.Need-loop-again Inv-loop μ-loop
 loop-again c =
     let l = c .before .before .before .before .before .loop in
-    let f = c .before .before .before .before .before .before .before .before .before .before .args in (
+    let f = (start-from-slice-known2 c) .args in (
       omega arith,
       search needs,
       λ M. block-more (lineOf (now (f .label)) (parametersOf (f .g .group)) (f .n) M (now (f .draws)) (f .from)) 16 (l .t) _ _ (l .out) _ (λ j h. length-line _ _ _ _ _ _ _) (mul-comm 16 (l .t)) (l .inv .2 M) (c .before .before .write-line .ensures M),
@@ -51,18 +57,4 @@ returns c =
 pub write-lines-spec : {M : Type 1} → statement M
 write-lines-spec =
     tie.close
-    (tie.spec
-    Inv-loop
-    μ-loop
-    (λ c. omega (arith, c .before .before .before .before .pre .0 .2))
-    loop-holds
-    (λ c. omega (arith, c .before .before .before .before .before .before .pre .0 .2))
-    (λ c. omega (arith, c .before .before .before .before .before .before .pre .0, c .before .loop .inv .1))
-    (λ c. omega (arith, c .before .before .before .before .before .before .pre .0, c .before .loop .inv .1))
-    (λ c. omega (arith, c .before .before .before .before .before .before .pre .0, c .before .loop .inv .1))
-    write-line-requires
-    (λ c. omega (arith, c .before .before .before .before .before .before .before .before .before .before .pre .0 .2, c .before .before .before .before .loop-test .taken))
-    (λ c. search needs)
-    loop-again
-    (λ c. search needs)
-    returns)
+    (tie.spec Inv-loop μ-loop (λ c. omega (arith, c .before .before .before .before .pre .0 .2)) loop-holds (λ c. omega (arith, c .before .before .before .before .before .before .pre .0 .2)) (λ c. omega (arith, c .before .before .before .before .before .before .pre .0, c .before .loop .inv .1)) (λ c. omega (arith, c .before .before .before .before .before .before .pre .0, c .before .loop .inv .1)) (λ c. omega (arith, c .before .before .before .before .before .before .pre .0, c .before .loop .inv .1)) write-line-requires (λ c. omega (arith, (start-from-slice-known2 c) .pre .0 .2, c .before .before .before .before .loop-test .taken)) (λ c. search needs) loop-again (λ c. search needs) returns)

@@ -25,6 +25,12 @@ Inv-loop out₀ g n rows list draws from count c₀ out c =
 abbrev μ-loop : tie.MeasureT-loop
 μ-loop out₀ g n rows list draws from count c₀ out c = count - c
 
+abbrev start-from-shared-slice-known2 : tie.After-shared-slice-known2 Inv-loop μ-loop → tie.Start Inv-loop μ-loop
+start-from-shared-slice-known2 c = c .before .before .before .before .before
+
+abbrev start-from-slice-known2 : tie.After-slice-known2 Inv-loop μ-loop → tie.Start Inv-loop μ-loop
+start-from-slice-known2 c = start-from-shared-slice-known2 (c .before .before .before .before .before)
+
 loop-holds : tie.Need-loop-holds Inv-loop μ-loop
 unfolding blocks
 loop-holds c = let s = c .before .before in (omega arith, few-pairs (s .args .rows) (s .args .n) (omega (arith, s .pre)) (omega (arith, s .pre)), refl, refl, none _)
@@ -32,7 +38,7 @@ loop-holds c = let s = c .before .before in (omega arith, few-pairs (s .args .ro
 loop-again : tie.Need-loop-again Inv-loop μ-loop
 loop-again c =
     let l = c .before .before .before .before .before .before .before .loop in
-    let f = c .before .before .before .before .before .before .before .before .before .before .args in
+    let f = (start-from-slice-known2 c) .args in
     let M = matrixOf (parametersOf (f .g)) (f .n) (λ k. getD (f .list) k 0) (now (f .draws)) (f .from) in
     let p = c .before .before .put-pair .ensures
     ∙ ap (λ (x : List ℕ). written x (midOf (8 * l .c) (length (l .out) - 8 * l .c) (l .out))) (made (parametersOf (f .g)) (f .n) (λ k. getD (f .list) k 0) (now (f .draws)) (f .from) (l .c) _ _ refl (c .before .before .before .before .opened .ensures .0)) in (
@@ -61,24 +67,4 @@ opened-requires c κs =
 pub write-pairs-spec : {M : Type 1} → statement M
 write-pairs-spec =
     tie.close
-    (tie.spec
-    Inv-loop
-    μ-loop
-    (λ c. let s = c .before .before in omega (arith, few-pairs (s .args .rows) (s .args .n) (omega (arith, s .pre)) (omega (arith, s .pre))))
-    loop-holds
-    (λ c. omega (arith, c .before .loop .inv .1))
-    (λ c. omega (arith, c .before .before .before .before .pre, c .before .loop .inv .1))
-    (λ c. search needs)
-    (λ c. omega (arith, c .before .before .before .before .before .pre, c .before .before .loop .inv .2))
-    (λ c. search needs)
-    (λ c. search needs)
-    opened-requires
-    (λ c. omega (arith, c .before .before .before .before .before .before .pre, c .before .before .before .loop .inv .2, c .before .before .before .loop .inv .3))
-    (λ c. omega (arith, c .before .before .before .before .before .before .pre, c .before .before .before .loop .inv .2, c .before .before .before .loop .inv .3))
-    (λ c. omega (arith, c .before .before .before .before .before .before .pre, c .before .before .before .loop .inv .2, c .before .before .before .loop .inv .3))
-    (λ c κs. (omega (arith, c .before .before .before .before .before .before .before .pre), simp (length-take, length-drop) (omega (arith, c .before .before .before .before .before .before .before .pre, c .before .before .before .before .loop .inv .2, c .before .before .before .before .loop .inv .3))))
-    (λ c. omega (arith, c .before .before .before .before .before .before .loop-test .taken, c .before .before .before .before .before .before .before .loop .inv .1))
-    (λ c. search needs)
-    loop-again
-    (λ c. search needs)
-    returns)
+    (tie.spec Inv-loop μ-loop (λ c. let s = c .before .before in omega (arith, few-pairs (s .args .rows) (s .args .n) (omega (arith, s .pre)) (omega (arith, s .pre)))) loop-holds (λ c. omega (arith, c .before .loop .inv .1)) (λ c. omega (arith, c .before .before .before .before .pre, c .before .loop .inv .1)) (λ c. search needs) (λ c. omega (arith, c .before .before .before .before .before .pre, c .before .before .loop .inv .2)) (λ c. search needs) (λ c. search needs) opened-requires (λ c. omega (arith, c .before .before .before .before .before .before .pre, c .before .before .before .loop .inv .2, c .before .before .before .loop .inv .3)) (λ c. omega (arith, c .before .before .before .before .before .before .pre, c .before .before .before .loop .inv .2, c .before .before .before .loop .inv .3)) (λ c. omega (arith, c .before .before .before .before .before .before .pre, c .before .before .before .loop .inv .2, c .before .before .before .loop .inv .3)) (λ c κs. (omega (arith, (start-from-shared-slice-known2 (c .before .before)) .pre), simp (length-take, length-drop) (omega (arith, (start-from-shared-slice-known2 (c .before .before)) .pre, c .before .before .before .before .loop .inv .2, c .before .before .before .before .loop .inv .3)))) (λ c. omega (arith, c .before .before .before .before .before .before .loop-test .taken, c .before .before .before .before .before .before .before .loop .inv .1)) (λ c. search needs) loop-again (λ c. search needs) returns)

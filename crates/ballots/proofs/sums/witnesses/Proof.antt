@@ -18,6 +18,9 @@ Inv-loop q n rows a l draws old new count row w₀ c₀ w c =
 abbrev μ-loop : tie.MeasureT-loop
 μ-loop q n rows a l draws old new count row w₀ c₀ w c = count - c
 
+abbrev start-from-loop : tie.In-loop Inv-loop μ-loop → tie.Start Inv-loop μ-loop
+start-from-loop c = c .before .before .before .before .before
+
 few : (rows n : ℕ) → rows < 8 → n ≤ 8 → rows * n ≤ 56
 few rows n h k = let u : rows * n ≤ 7 * n = mul-le-mul-right n (omega arith) in omega arith
 
@@ -54,13 +57,13 @@ module _ (c : tie.After-source-of Inv-loop μ-loop) where
 
 past-requires : tie.Need-past-requires Inv-loop μ-loop
 past-requires c κs =
-    let p = c .before .before .before .before .before .before .before .before .pre .1 .0 in
-    (p .positive, p .below (c .before .before .before .before .before .before .before .before .args .old + c .before .before .source-of .result) (omega (arith, source-in (c .before .before))))
+    let p = (start-from-loop (c .before .before .before)) .pre .1 .0 in
+    (p .positive, p .below ((start-from-loop (c .before .before .before)) .args .old + c .before .before .source-of .result) (omega (arith, source-in (c .before .before))))
 
 loop-again : tie.Need-loop-again Inv-loop μ-loop
 loop-again c =
     let l = c .before .before .before .before .before .loop in
-    let f = c .before .before .before .before .before .before .before .before .before .args in
+    let f = (start-from-loop (c .before .before .before .before)) .args in
     let e : 2 + l .c + 1 ≡ 2 + (l .c + 1) = omega arith in (
       omega arith,
       l .inv .1,
@@ -80,31 +83,4 @@ returns c =
 pub witnesses-spec : {M : Type 1} → statement M
 witnesses-spec =
     tie.close
-    (tie.spec
-    Inv-loop
-    μ-loop
-    (λ c. let s = c .before in omega (arith, few (s .args .rows) (s .args .n) (omega (arith, s .pre .0)) (omega (arith, s .pre .0))))
-    (λ c. omega (arith, row-near c))
-    (λ c. omega (arith, row-near c))
-    (λ c. omega (arith, row-near c, c .before .pre .0))
-    (λ c. omega (arith, row-near c))
-    (λ c. omega (arith, row-there (c .before), c .before .before .pre .0))
-    (λ c. search needs)
-    (λ c κs. let p = c .before .before .pre in (p .1 .0 .positive, omega (arith, p .0), omega arith, omega (arith, row-near (c .before)), omega (arith, row-there (c .before), p .0)))
-    (λ c. search needs)
-    loop-holds
-    (λ c κs. (omega (arith, c .before .before .before .before .before .pre .0), omega (arith, c .before .before .before .before .before .pre .0, c .before .loop .inv .1)))
-    (λ c. omega (arith, c .before .before .before .before .before .before .pre .1 .1 .near, c .before .before .loop .inv .1, c .before .before .loop .inv .2, c .before .loop-test .taken))
-    (λ c. omega (arith, c .before .before .before .before .before .before .pre .1 .1 .near, c .before .before .loop .inv .1, c .before .before .loop .inv .2, c .before .loop-test .taken))
-    (λ c. omega (arith, c .before .before .before .before .before .before .before .pre .1 .1 .enough, c .before .before .before .loop .inv .2, c .before .before .loop-test .taken))
-    (λ c. omega (arith, c .before .before .before .before .before .before .before .pre .1 .0 .near, source-in (c .before)))
-    (λ c. omega (arith, c .before .before .before .before .before .before .before .pre .1 .0 .near, source-in (c .before)))
-    (λ c. omega (arith, c .before .before .before .before .before .before .before .before .pre .1 .0 .enough, source-in (c .before .before)))
-    past-requires
-    (λ c. omega (arith, c .before .before .before .before .before .loop .inv .1, c .before .before .before .before .loop-test .taken))
-    (λ c. omega (arith, c .before .before .before .before .before .loop .inv .1, c .before .before .before .before .loop-test .taken))
-    (λ c. omega (arith, c .before .before .before .before .before .loop .inv .1, c .before .before .before .before .loop-test .taken, c .before .before .before .before .before .loop .inv .3 .long))
-    (λ c. omega (arith, c .before .before .before .before .before .loop .inv .1, c .before .before .before .before .loop-test .taken))
-    (λ c. search needs)
-    loop-again
-    returns)
+    (tie.spec Inv-loop μ-loop (λ c. let s = c .before in omega (arith, few (s .args .rows) (s .args .n) (omega (arith, s .pre .0)) (omega (arith, s .pre .0)))) (λ c. omega (arith, row-near c)) (λ c. omega (arith, row-near c)) (λ c. omega (arith, row-near c, c .before .pre .0)) (λ c. omega (arith, row-near c)) (λ c. omega (arith, row-there (c .before), c .before .before .pre .0)) (λ c. search needs) (λ c κs. let p = c .before .before .pre in (p .1 .0 .positive, omega (arith, p .0), omega arith, omega (arith, row-near (c .before)), omega (arith, row-there (c .before), p .0))) (λ c. search needs) loop-holds (λ c κs. (omega (arith, c .before .before .before .before .before .pre .0), omega (arith, c .before .before .before .before .before .pre .0, c .before .loop .inv .1))) (λ c. omega (arith, c .before .before .before .before .before .before .pre .1 .1 .near, c .before .before .loop .inv .1, c .before .before .loop .inv .2, c .before .loop-test .taken)) (λ c. omega (arith, c .before .before .before .before .before .before .pre .1 .1 .near, c .before .before .loop .inv .1, c .before .before .loop .inv .2, c .before .loop-test .taken)) (λ c. omega (arith, (start-from-loop (c .before .before)) .pre .1 .1 .enough, c .before .before .before .loop .inv .2, c .before .before .loop-test .taken)) (λ c. omega (arith, (start-from-loop (c .before .before)) .pre .1 .0 .near, source-in (c .before))) (λ c. omega (arith, (start-from-loop (c .before .before)) .pre .1 .0 .near, source-in (c .before))) (λ c. omega (arith, (start-from-loop (c .before .before .before)) .pre .1 .0 .enough, source-in (c .before .before))) past-requires (λ c. omega (arith, c .before .before .before .before .before .loop .inv .1, c .before .before .before .before .loop-test .taken)) (λ c. omega (arith, c .before .before .before .before .before .loop .inv .1, c .before .before .before .before .loop-test .taken)) (λ c. omega (arith, c .before .before .before .before .before .loop .inv .1, c .before .before .before .before .loop-test .taken, c .before .before .before .before .before .loop .inv .3 .long)) (λ c. omega (arith, c .before .before .before .before .before .loop .inv .1, c .before .before .before .before .loop-test .taken)) (λ c. search needs) loop-again returns)

@@ -20,6 +20,12 @@ use borrow.Author.Needs.{needs}
 use Rattle.boards.proofs.records.write_first.Statement.{statement}
 use Rattle.boards.proofs.records.write_first.Tie as tie
 
+abbrev start-from-gone : tie.After-gone → tie.Start
+start-from-gone c = c .before .before .before .before .before
+
+abbrev start-from-half : tie.After-half → tie.Start
+start-from-half c = start-from-gone (c .before .before .before .before .before)
+
 -- the ranking is within the list
 ranked : (c : tie.After-shared-slice-known3) → c .before .before .before .before .args .b * c .before .before .before .before .args .size .n + c .before .before .before .before .args .size .n ≤ length (now (c .before .before .before .before .args .rankings))
 ranked c =
@@ -27,20 +33,20 @@ ranked c =
     omega (arith, row-below (s .args .size .k) (s .args .size .n) (s .args .b) (s .pre .3), s .pre .1 .listed)
 
 -- where its draws start
-here : (c : tie.After-record-draws) → c .before .before .before .before .before .before .before .args .turn .new + c .before .before .before .before .before .before .before .args .b * c .record-draws .result ≡ drawsAt (c .before .before .before .before .before .before .before .args .size .n) (c .before .before .before .before .before .before .before .args .size .k) 0 (c .before .before .before .before .before .before .before .args .b)
+here : (c : tie.After-record-draws) → (start-from-gone (c .before .before)) .args .turn .new + (start-from-gone (c .before .before)) .args .b * c .record-draws .result ≡ drawsAt ((start-from-gone (c .before .before)) .args .size .n) ((start-from-gone (c .before .before)) .args .size .k) 0 ((start-from-gone (c .before .before)) .args .b)
 here c =
-    let p = c .before .before .before .before .before .before .before .pre in
+    let p = (start-from-gone (c .before .before)) .pre in
     rw (p .1 .new, p .2, c .record-draws .ensures .0)
 
 -- and end
-there : (c : tie.After-record-draws) → drawsAt (c .before .before .before .before .before .before .before .args .size .n) (c .before .before .before .before .before .before .before .args .size .k) 0 (c .before .before .before .before .before .before .before .args .b) + recordDraws (c .before .before .before .before .before .before .before .args .size .n) 0 < 2 ^ 40
+there : (c : tie.After-record-draws) → drawsAt ((start-from-gone (c .before .before)) .args .size .n) ((start-from-gone (c .before .before)) .args .size .k) 0 ((start-from-gone (c .before .before)) .args .b) + recordDraws ((start-from-gone (c .before .before)) .args .size .n) 0 < 2 ^ 40
 there c =
-    let s = c .before .before .before .before .before .before .before in
+    let s = (start-from-gone (c .before .before)) in
     omega (arith, draws-within (s .args .size .n) (s .args .size .k) 0 (s .args .b) (s .pre .3), rw (s .pre .2) at (s .pre .1 .drawn .near))
 
 write-ballot-requires : tie.Need-write-ballot-requires
 write-ballot-requires c κs =
-    let s = c .before .before .before .before .before .before .before .before .before .before in
+    let s = (start-from-half c) in
     let f = s .args in
     let p = s .pre in
     let n = f .size .n in
@@ -49,7 +55,7 @@ write-ballot-requires c κs =
 
 returns : tie.Need-returns
 returns c =
-    let s = c .before .before .before .before .before .before .before .before .before .before .before .before .before in
+    let s = (start-from-half (c .before .before .before)) in
     let f = s .args in
     let p = s .pre in
     let job = boardJob (f .size) (parametersOf (f .g .group)) (now (f .label)) (now (f .rankings)) (now (f .draws)) in
@@ -63,14 +69,4 @@ returns c =
 pub write-first-spec : {M : Type 1} → statement M
 write-first-spec =
     tie.close
-    (tie.spec
-    (λ c. omega (arith, ranked c))
-    (λ c κs. (c .before .before .before .before .before .pre .1 .n-high, ranked (c .before), c .before .before .before .before .before .pre .1 .gone-listed))
-    (λ c κs. (c .before .before .before .before .before .before .pre .1 .n-high, omega (arith, c .before .before .before .before .before .before .pre .1 .early)))
-    (λ c. omega (arith, here c, there c))
-    (λ c. omega (arith, here (c .before), there (c .before)))
-    (λ c. omega (arith, c .before .before .before .before .before .before .before .before .before .pre .1 .K-high, c .before .before .before .before .before .before .before .before .before .pre .3))
-    (λ c κs. omega (arith, c .before .before .before .before .before .before .before .before .before .pre .1 .K-high, c .before .before .before .before .before .before .before .before .before .pre .3))
-    write-ballot-requires
-    (λ c. search needs)
-    returns)
+    (tie.spec (λ c. omega (arith, ranked c)) (λ c κs. (c .before .before .before .before .before .pre .1 .n-high, ranked (c .before), c .before .before .before .before .before .pre .1 .gone-listed)) (λ c κs. (c .before .before .before .before .before .before .pre .1 .n-high, omega (arith, c .before .before .before .before .before .before .pre .1 .early))) (λ c. omega (arith, here c, there c)) (λ c. omega (arith, here (c .before), there (c .before))) (λ c. omega (arith, c .before .before .before .before .before .before .before .before .before .pre .1 .K-high, c .before .before .before .before .before .before .before .before .before .pre .3)) (λ c κs. omega (arith, c .before .before .before .before .before .before .before .before .before .pre .1 .K-high, c .before .before .before .before .before .before .before .before .before .pre .3)) write-ballot-requires (λ c. search needs) returns)

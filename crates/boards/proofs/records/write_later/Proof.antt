@@ -19,6 +19,15 @@ use borrow.Author.Needs.{needs}
 use Rattle.boards.proofs.records.write_later.Statement.{statement}
 use Rattle.boards.proofs.records.write_later.Tie as tie
 
+abbrev start-from-was : tie.After-was → tie.Start
+start-from-was c = c .before .before .before .before .before
+
+abbrev start-from-place-of : tie.After-place-of → tie.Start
+start-from-place-of c = start-from-was (c .before .before .before .before .before)
+
+abbrev start-from-struct-known2 : tie.After-struct-known2 → tie.Start
+start-from-struct-known2 c = start-from-place-of (c .before .before .before .before .before)
+
 abbrev jobAt : tie.Start → J.Job
 jobAt s = boardJob (s .args .size) (parametersOf (s .args .g .group)) (now (s .args .label)) (now (s .args .rankings)) (now (s .args .draws))
 
@@ -37,11 +46,11 @@ ranked : (s : tie.Start) → s .args .b * s .args .size .n + s .args .size .n �
 ranked s = omega (arith, row-below (s .args .size .k) (s .args .size .n) (s .args .b) (s .pre .3), s .pre .1 .listed)
 
 -- where the draws of the two records start, and that they are near
-older : (c : tie.After-record-draws) → c .before .before .before .before .before .before .before .before .before .before .before .before .args .turn .old + c .before .before .before .before .before .before .before .before .before .before .before .before .args .b * c .record-draws .result ≡ drawsAt (c .before .before .before .before .before .before .before .before .before .before .before .before .args .size .n) (c .before .before .before .before .before .before .before .before .before .before .before .before .args .size .k) (was (c .before .before .before .before .before .before .before .before .before .before .before .before)) (c .before .before .before .before .before .before .before .before .before .before .before .before .args .b)
-older c = rw (left (c .before .before .before .before .before .before .before .before .before .before .before .before) .old, c .record-draws .ensures .0)
+older : (c : tie.After-record-draws) → (start-from-place-of (c .before .before)) .args .turn .old + (start-from-place-of (c .before .before)) .args .b * c .record-draws .result ≡ drawsAt ((start-from-place-of (c .before .before)) .args .size .n) ((start-from-place-of (c .before .before)) .args .size .k) (was ((start-from-place-of (c .before .before)))) ((start-from-place-of (c .before .before)) .args .b)
+older c = rw (left ((start-from-place-of (c .before .before))) .old, c .record-draws .ensures .0)
 
-newer : (c : tie.After-record-draws2) → c .before .before .before .before .before .before .before .before .before .before .before .before .before .before .args .turn .new + c .before .before .before .before .before .before .before .before .before .before .before .before .before .before .args .b * c .record-draws2 .result ≡ drawsAt (c .before .before .before .before .before .before .before .before .before .before .before .before .before .before .args .size .n) (c .before .before .before .before .before .before .before .before .before .before .before .before .before .before .args .size .k) (c .before .before .before .before .before .before .before .before .before .before .before .before .before .before .args .turn .m) (c .before .before .before .before .before .before .before .before .before .before .before .before .before .before .args .b)
-newer c = rw (c .before .before .before .before .before .before .before .before .before .before .before .before .before .before .pre .1 .new, c .record-draws2 .ensures .0)
+newer : (c : tie.After-record-draws2) → (start-from-place-of (c .before .before .before .before)) .args .turn .new + (start-from-place-of (c .before .before .before .before)) .args .b * c .record-draws2 .result ≡ drawsAt ((start-from-place-of (c .before .before .before .before)) .args .size .n) ((start-from-place-of (c .before .before .before .before)) .args .size .k) ((start-from-place-of (c .before .before .before .before)) .args .turn .m) ((start-from-place-of (c .before .before .before .before)) .args .b)
+newer c = rw ((start-from-place-of (c .before .before .before .before)) .pre .1 .new, c .record-draws2 .ensures .0)
 
 near : (s : tie.Start) (m : ℕ) → m ≡ s .args .turn .m → drawsAt (s .args .size .n) (s .args .size .k) m (s .args .b) < 2 ^ 40
 near s m e = omega (arith, draws-within (s .args .size .n) (s .args .size .k) m (s .args .b) (s .pre .3), rw (← e) at (s .pre .1 .drawn .near))
@@ -58,7 +67,7 @@ near-before s =
 -- the shift that is handed on
 module _ (c : tie.After-write-shift-arg) where
   abbrev s : tie.Start
-  s = c .before .before .before .before .before .before .before .before .before .before .before .before .before .before .before .before
+  s = (start-from-struct-known2 (c .before))
 
   struck-is : c .before .before .before .before .before .before .place-of .result ≡ placeOf (s .args .turn .a) (standing (listOf (s .args .turn .before)) (rankingOf (jobAt s) (s .args .b)))
   struck-is =
@@ -80,7 +89,7 @@ module _ (c : tie.After-write-shift-arg) where
 
 write-shift-requires : tie.Need-write-shift-requires
 write-shift-requires c κs =
-    let s = c .before .before .before .before .before .before .before .before .before .before .before .before .before .before .before .before in
+    let s = (start-from-struct-known2 (c .before)) in
     let f = s .args in
     let p = s .pre in
     let l = left s in
@@ -96,7 +105,7 @@ write-shift-requires c κs =
 returns : tie.Need-returns
 returns c =
     let a = c .before .before .before in
-    let s = c .before .before .before .before .before .before .before .before .before .before .before .before .before .before .before .before .before .before .before in
+    let s = (start-from-struct-known2 (c .before .before .before .before)) in
     let f = s .args in
     c .before .before .write-shift .ensures
     ∙ ap (λ (x : List ℕ). written x (now (f .out)))
@@ -106,25 +115,4 @@ returns c =
 pub write-later-spec : {M : Type 1} → statement M
 write-later-spec =
     tie.close
-    (tie.spec
-    (λ c. omega (arith, ranked (c .before .before .before .before)))
-    (λ c κs. (c .before .before .before .before .before .before .pre .1 .n-high, ranked (c .before .before .before .before .before .before), c .before .before .before .before .before .before .pre .1 .before-listed))
-    (λ c κs. (c .before .before .before .before .before .before .before .pre .1 .n-high, ranked (c .before .before .before .before .before .before .before), c .before .before .before .before .before .before .before .pre .1 .gone-listed))
-    (λ c. omega (arith, c .before .before .before .before .before .before .before .before .pre .1 .early))
-    (λ c. omega (arith, c .before .before .before .before .before .before .before .before .pre .1 .K-high, c .before .before .before .before .before .before .before .before .pre .3))
-    (λ c κs. omega (arith, c .before .before .before .before .before .before .before .before .pre .1 .K-high, c .before .before .before .before .before .before .before .before .pre .3))
-    (λ c. omega (arith, c .before .before .before .before .before .before .before .before .before .pre .1 .early))
-    (λ c. omega (arith, c .before .before .before .before .before .before .before .before .before .pre .1 .n-high))
-    (λ c κs. omega (arith, c .before .before .before .before .before .before .before .before .before .pre .1 .n-high, c .before .before .before .before .before .before .before .before .before .pre .2))
-    (λ c κs. search needs)
-    (λ c. omega (arith, c .wide .ensures, left (c .before .before .before .before .before .before .before .before .before .before .before) .low))
-    (λ c. omega (arith, c .before .before .before .before .before .before .before .before .before .before .before .pre .2))
-    (λ c κs. (c .before .before .before .before .before .before .before .before .before .before .before .pre .1 .n-high, omega (arith, c .before .before .before .before .before .before .before .before .before .before .before .pre .1 .early)))
-    (λ c. omega (arith, older c, near-before (c .before .before .before .before .before .before .before .before .before .before .before .before)))
-    (λ c. omega (arith, older (c .before), near-before (c .before .before .before .before .before .before .before .before .before .before .before .before .before)))
-    (λ c κs. (c .before .before .before .before .before .before .before .before .before .before .before .before .before .pre .1 .n-high, omega (arith, c .before .before .before .before .before .before .before .before .before .before .before .before .before .pre .1 .early)))
-    (λ c. omega (arith, newer c, near (c .before .before .before .before .before .before .before .before .before .before .before .before .before .before) (c .before .before .before .before .before .before .before .before .before .before .before .before .before .before .args .turn .m) refl))
-    (λ c. omega (arith, newer (c .before), near (c .before .before .before .before .before .before .before .before .before .before .before .before .before .before .before) (c .before .before .before .before .before .before .before .before .before .before .before .before .before .before .before .args .turn .m) refl))
-    write-shift-requires
-    (λ c. search needs)
-    returns)
+    (tie.spec (λ c. omega (arith, ranked (c .before .before .before .before))) (λ c κs. (c .before .before .before .before .before .before .pre .1 .n-high, ranked (c .before .before .before .before .before .before), c .before .before .before .before .before .before .pre .1 .before-listed)) (λ c κs. (c .before .before .before .before .before .before .before .pre .1 .n-high, ranked (c .before .before .before .before .before .before .before), c .before .before .before .before .before .before .before .pre .1 .gone-listed)) (λ c. omega (arith, c .before .before .before .before .before .before .before .before .pre .1 .early)) (λ c. omega (arith, c .before .before .before .before .before .before .before .before .pre .1 .K-high, c .before .before .before .before .before .before .before .before .pre .3)) (λ c κs. omega (arith, c .before .before .before .before .before .before .before .before .pre .1 .K-high, c .before .before .before .before .before .before .before .before .pre .3)) (λ c. omega (arith, c .before .before .before .before .before .before .before .before .before .pre .1 .early)) (λ c. omega (arith, c .before .before .before .before .before .before .before .before .before .pre .1 .n-high)) (λ c κs. omega (arith, c .before .before .before .before .before .before .before .before .before .pre .1 .n-high, c .before .before .before .before .before .before .before .before .before .pre .2)) (λ c κs. search needs) (λ c. omega (arith, c .wide .ensures, left (c .before .before .before .before .before .before .before .before .before .before .before) .low)) (λ c. omega (arith, c .before .before .before .before .before .before .before .before .before .before .before .pre .2)) (λ c κs. (c .before .before .before .before .before .before .before .before .before .before .before .pre .1 .n-high, omega (arith, c .before .before .before .before .before .before .before .before .before .before .before .pre .1 .early))) (λ c. omega (arith, older c, near-before (c .before .before .before .before .before .before .before .before .before .before .before .before))) (λ c. omega (arith, older (c .before), near-before (c .before .before .before .before .before .before .before .before .before .before .before .before .before))) (λ c κs. (c .before .before .before .before .before .before .before .before .before .before .before .before .before .pre .1 .n-high, omega (arith, c .before .before .before .before .before .before .before .before .before .before .before .before .before .pre .1 .early))) (λ c. omega (arith, newer c, near (c .before .before .before .before .before .before .before .before .before .before .before .before .before .before) (c .before .before .before .before .before .before .before .before .before .before .before .before .before .before .args .turn .m) refl)) (λ c. omega (arith, newer (c .before), near (c .before .before .before .before .before .before .before .before .before .before .before .before .before .before .before) (c .before .before .before .before .before .before .before .before .before .before .before .before .before .before .before .args .turn .m) refl)) write-shift-requires (λ c. search needs) returns)

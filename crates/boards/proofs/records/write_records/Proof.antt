@@ -25,26 +25,32 @@ Inv-loop out₀ label g size rankings draws turn k width b₀ out b =
 abbrev μ-loop : tie.MeasureT-loop
 μ-loop out₀ label g size rankings draws turn k width b₀ out b = k - b
 
+abbrev start-from-record-length : tie.After-record-length Inv-loop μ-loop → tie.Start Inv-loop μ-loop
+start-from-record-length c = c .before .before .before .before .before
+
+abbrev start-from-out : tie.After-out Inv-loop μ-loop → tie.Start Inv-loop μ-loop
+start-from-out c = start-from-record-length (c .before .before .before .before .before)
+
 loop-holds : tie.Need-loop-holds Inv-loop μ-loop
 unfolding blocks
 loop-holds c = (omega arith, refl, none _)
 
 -- the record and its end are within the records
-within : (c : tie.In-loop Inv-loop μ-loop) → c .before .loop .b * c .before .before .record-length .result + c .before .before .record-length .result ≤ length (now (c .before .before .before .before .before .before .before .args .out))
+within : (c : tie.In-loop Inv-loop μ-loop) → c .before .loop .b * c .before .before .record-length .result + c .before .before .record-length .result ≤ length (now ((start-from-record-length (c .before .before)) .args .out))
 within c =
-    let s = c .before .before .before .before .before .before .before in
+    let s = (start-from-record-length (c .before .before)) in
     let r = c .before .before .record-length in
     omega (arith, row-below (s .args .size .k) (r .result) (c .before .loop .b) (omega arith), ap (λ (x : ℕ). s .args .size .k * x) (r .ensures .0), s .pre .2)
 
 write-record-requires : tie.Need-write-record-requires Inv-loop μ-loop
 write-record-requires c κs =
-    let p = c .before .before .before .before .before .before .before .before .pre in
+    let p = (start-from-record-length (c .before .before .before)) .pre in
     (p .0, p .1, omega arith, simp (length-take, length-drop) (omega (arith, within (c .before), c .before .before .loop .inv .1, c .before .before .before .record-length .ensures .0)))
 
 loop-again : tie.Need-loop-again Inv-loop μ-loop
 loop-again c =
     let l = c .before .before .before .before .before .loop in
-    let s = c .before .before .before .before .before .before .before .before .before .before .before in
+    let s = (start-from-out (c .before)) in
     let f = s .args in
     let g = parametersOf (f .g .group) in
     let job = boardJob (f .size) g (now (f .label)) (now (f .rankings)) (now (f .draws)) in
@@ -58,24 +64,10 @@ loop-again c =
 returns : tie.Need-returns Inv-loop μ-loop
 returns c =
     let l = c .before .loop in
-    let e : l .b ≡ c .before .before .before .before .before .before .before .args .size .k = omega arith in
+    let e : l .b ≡ (start-from-record-length (c .before .before)) .args .size .k = omega arith in
     l .inv .2 ∙ rw e
 
 pub write-records-spec : {M : Type 1} → statement M
 write-records-spec =
     tie.close
-    (tie.spec
-    Inv-loop
-    μ-loop
-    (λ c κs. (c .before .before .before .before .pre .1 .n-high, omega (arith, c .before .before .before .before .pre .1 .early)))
-    loop-holds
-    (λ c. omega (arith, within c, c .before .before .before .before .before .before .before .good))
-    (λ c. omega (arith, within c, c .before .loop .inv .1))
-    (λ c. omega (arith, within c, c .before .loop .inv .1))
-    (λ c. omega (arith, within c, c .before .loop .inv .1))
-    write-record-requires
-    (λ c. omega (arith, c .before .before .before .before .loop-test .taken, c .before .before .before .before .before .before .before .before .before .before .before .pre .1 .K-high))
-    (λ c. search needs)
-    loop-again
-    (λ c. search needs)
-    returns)
+    (tie.spec Inv-loop μ-loop (λ c κs. (c .before .before .before .before .pre .1 .n-high, omega (arith, c .before .before .before .before .pre .1 .early))) loop-holds (λ c. omega (arith, within c, (start-from-record-length (c .before .before)) .good)) (λ c. omega (arith, within c, c .before .loop .inv .1)) (λ c. omega (arith, within c, c .before .loop .inv .1)) (λ c. omega (arith, within c, c .before .loop .inv .1)) write-record-requires (λ c. omega (arith, c .before .before .before .before .loop-test .taken, (start-from-out (c .before)) .pre .1 .K-high)) (λ c. search needs) loop-again (λ c. search needs) returns)

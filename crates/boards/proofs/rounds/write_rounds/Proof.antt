@@ -26,6 +26,9 @@ Inv-loop out₀ label g size rankings draws count n k end at₀ from₀ m₀ out
 abbrev μ-loop : tie.MeasureT-loop
 μ-loop out₀ label g size rankings draws count n k end at₀ from₀ m₀ out at from m = end - m
 
+abbrev loop-from-record-length : tie.After-record-length Inv-loop μ-loop → tie.In-loop Inv-loop μ-loop
+loop-from-record-length c = c .before .before .before .before .before
+
 loop-holds : tie.Need-loop-holds Inv-loop μ-loop
 unfolding blocks roundAt roundDraws
 loop-holds c = (omega arith, refl, refl, refl, refl, none _)
@@ -75,11 +78,11 @@ inside : (c : tie.After-record-length Inv-loop μ-loop) →
 inside c = let i = c .before .before .before .before .before in omega (arith, within i, ap (λ (x : ℕ). entry i .args .size .k * x) (c .record-length .ensures .0))
 
 draws-next : (c : tie.After-record-draws Inv-loop μ-loop) →
-    let i = c .before .before .before .before .before .before .before in
+    let i = (loop-from-record-length (c .before .before)) in
     let f = entry i .args in
     let l = i .before .loop in l .from + f .size .k * c .record-draws .result ≡ roundDraws (f .size .n) (f .size .k) (l .m + 1)
 draws-next c =
-    let i = c .before .before .before .before .before .before .before in
+    let i = (loop-from-record-length (c .before .before)) in
     let f = entry i .args in
     let l = i .before .loop in
     draws-more (f .size .n) (f .size .k) (l .m) (l .from) (c .record-draws .result) (l .inv .4) (c .record-draws .ensures .0)
@@ -91,7 +94,7 @@ near c =
 
 loop-again : tie.Need-loop-again Inv-loop μ-loop
 loop-again c =
-    let i = c .before .before .before .before .before .before .before in
+    let i = (loop-from-record-length (c .before .before)) in
     let l = i .before .loop in
     let f = entry i .args in
     let g = parametersOf (f .g .group) in
@@ -113,15 +116,4 @@ returns c =
 pub write-rounds-spec : {M : Type 1} → statement M
 write-rounds-spec =
     tie.close
-    (tie.spec Inv-loop μ-loop
-    (λ c. omega (arith, c .before .before .before .before .before .pre .1 .few, c .before .before .before .before .before .pre .1 .n-high)) loop-holds
-    (λ c. omega (arith, within c, c .before .loop .inv .2)) (λ c. omega (arith, within c, c .before .loop .inv .2))
-    (λ c. omega (arith, within c, c .before .loop .inv .2)) write-round-requires (λ c κs. below (c .before .before .before .before))
-    (λ c. omega (arith, inside c, entry (c .before .before .before .before .before) .good)) (λ c κs. below (c .before .before .before .before .before) .0)
-    (λ c. omega (arith, inside (c .before), c .sheet-length .ensures, entry (c .before .before .before .before .before .before) .good))
-    (λ c. omega (arith, inside (c .before), c .sheet-length .ensures, entry (c .before .before .before .before .before .before) .good))
-    (λ c κs. below (c .before .before .before .before .before .before))
-    (λ c. omega (arith, draws-next c, near (c .before .before .before .before .before .before .before)))
-    (λ c. omega (arith, draws-next c, near (c .before .before .before .before .before .before .before)))
-    (λ c. omega (arith, below (c .before .before .before .before .before .before .before)))
-    (λ c. omega (arith, c .before .before .before .before .before .before .before .loop-test .taken)) loop-again (λ c. search needs) returns)
+    (tie.spec Inv-loop μ-loop (λ c. omega (arith, c .before .before .before .before .before .pre .1 .few, c .before .before .before .before .before .pre .1 .n-high)) loop-holds (λ c. omega (arith, within c, c .before .loop .inv .2)) (λ c. omega (arith, within c, c .before .loop .inv .2)) (λ c. omega (arith, within c, c .before .loop .inv .2)) write-round-requires (λ c κs. below (c .before .before .before .before)) (λ c. omega (arith, inside c, entry (c .before .before .before .before .before) .good)) (λ c κs. below (c .before .before .before .before .before) .0) (λ c. omega (arith, inside (c .before), c .sheet-length .ensures, entry (c .before .before .before .before .before .before) .good)) (λ c. omega (arith, inside (c .before), c .sheet-length .ensures, entry (c .before .before .before .before .before .before) .good)) (λ c κs. below (c .before .before .before .before .before .before)) (λ c. omega (arith, draws-next c, near ((loop-from-record-length (c .before .before))))) (λ c. omega (arith, draws-next c, near ((loop-from-record-length (c .before .before))))) (λ c. omega (arith, below ((loop-from-record-length (c .before .before))))) (λ c. omega (arith, (loop-from-record-length (c .before .before)) .loop-test .taken)) loop-again (λ c. search needs) returns)

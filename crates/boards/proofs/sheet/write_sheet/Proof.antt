@@ -19,15 +19,24 @@ Inv-loop out₀ q n m gone draws from stride k counts i₀ out i =
 abbrev μ-loop : tie.MeasureT-loop
 μ-loop out₀ q n m gone draws from stride k counts i₀ out i = n - i
 
+abbrev start-from-put-two : tie.After-put-two Inv-loop μ-loop → tie.Start Inv-loop μ-loop
+start-from-put-two c = c .before .before .before .before .before
+
+abbrev start-from-out2 : tie.After-out2 Inv-loop μ-loop → tie.Start Inv-loop μ-loop
+start-from-out2 c = start-from-put-two (c .before .before .before .before .before)
+
+abbrev start-from-write-tally : tie.After-write-tally Inv-loop μ-loop → tie.Start Inv-loop μ-loop
+start-from-write-tally c = start-from-out2 (c .before .before .before .before .before)
+
 loop-holds : tie.Need-loop-holds Inv-loop μ-loop
 loop-holds c =
-    let f = c .before .before .before .before .before .before .before .before .before .before .before .args in
+    let f = (start-from-out2 (c .before)) .args in
     (omega arith, refl, λ o h. h ∙ sheet-none (f .q) (f .n) (f .k) (now (f .draws)) (f .from) (f .stride) (f .m) (f .gone) (f .sheet .counts) o)
 
 loop-again : tie.Need-loop-again Inv-loop μ-loop
 loop-again c =
     let l = c .before .before .before .before .before .loop in
-    let f = c .before .before .before .before .before .before .before .before .before .before .before .before .before .before .before .before .before .args in (
+    let f = (start-from-write-tally (c .before .before)) .args in (
       omega arith,
       search needs,
       λ o h. sheet-more (f .q) (f .n) (f .k) (now (f .draws)) (f .from) (f .stride) (f .m) (f .gone) (f .sheet .counts) (l .i) _ o (l .out) _ refl (l .inv .2 o h) (c .before .before .write-tally .ensures),
@@ -36,34 +45,11 @@ loop-again c =
 returns : tie.Need-returns Inv-loop μ-loop
 returns c =
     let l = c .before .loop in
-    let f = c .before .before .before .before .before .before .before .before .before .before .before .before .before .args in
+    let f = (start-from-out2 (c .before .before .before)) .args in
     let e : l .i ≡ f .n = omega arith in
     l .inv .2 _ (more _ _ _ _ _ _ refl (c .before .before .before .before .before .before .before .before .put-two .ensures) (c .before .before .before .before .put-two2 .ensures)) ∙ rw (e, sheet-whole (f .q) (f .n) (f .k) (now (f .draws)) (f .from) (f .stride) (f .m) (f .gone) (f .sheet .counts))
 
 pub write-sheet-spec : {M : Type 1} → statement M
 write-sheet-spec =
     tie.close
-    (tie.spec
-    Inv-loop
-    μ-loop
-    (λ c κs. search needs)
-    (λ c. search needs)
-    (λ c. search needs)
-    (λ c. search needs)
-    (λ c. search needs)
-    (λ c κs. search needs)
-    loop-holds
-    (λ c. search needs)
-    (λ c. search needs)
-    (λ c. search needs)
-    (λ c. search needs)
-    (λ c. search needs)
-    (λ c. search needs)
-    (λ c. search needs)
-    (λ c. search needs)
-    (λ c κs. search needs)
-    (λ c. search needs)
-    (λ c. search needs)
-    loop-again
-    (λ c. search needs)
-    returns)
+    (tie.spec Inv-loop μ-loop (λ c κs. search needs) (λ c. search needs) (λ c. search needs) (λ c. search needs) (λ c. search needs) (λ c κs. search needs) loop-holds (λ c. search needs) (λ c. search needs) (λ c. search needs) (λ c. search needs) (λ c. search needs) (λ c. search needs) (λ c. search needs) (λ c. search needs) (λ c κs. search needs) (λ c. search needs) (λ c. search needs) loop-again (λ c. search needs) returns)

@@ -24,6 +24,15 @@ Inv-loop board head here count place₀ k₀ place k =
 abbrev μ-loop : tie.MeasureT-loop
 μ-loop board head here count place₀ k₀ place k = count - k
 
+abbrev start-from-struct-known2 : tie.After-struct-known2 Inv-loop μ-loop → tie.Start Inv-loop μ-loop
+start-from-struct-known2 c = c .before .before .before .before .before
+
+abbrev loop-from-match-keys1 : tie.At-match-keys1 Inv-loop μ-loop → tie.At-loop Inv-loop μ-loop
+loop-from-match-keys1 c = c .before .before .before .before .before
+
+abbrev loop-from-match-keys2 : tie.At-match-keys2 Inv-loop μ-loop → tie.At-loop Inv-loop μ-loop
+loop-from-match-keys2 c = c .before .before .before .before .before
+
 loop-holds : tie.Need-loop-holds Inv-loop μ-loop
 loop-holds c =
     let a = c .before .args in
@@ -47,8 +56,8 @@ record-fault-requires c κs =
 returns : tie.Need-returns Inv-loop μ-loop
 unfolding Searched
 returns c =
-    let a = c .before .before .before .before .before .before .before .before .before .args in
-    let l = c .before .before .before .before .before .before .before .loop in (
+    let a = (start-from-struct-known2 (c .before .before .before .before)) .args in
+    let l = (loop-from-match-keys1 (c .before .before)) .loop in (
       c .before .before .before .before .before .before .loop-test .taken,
       first-fault (recordFault sha256 (now (a .board)) (headOf (now (a .board)) (a .h)) (a .stage .a) (a .stage .m)) (a .h .k) (l .k) _
           (c .before .before .before .before .before .before .loop-test .taken) (l .inv .3)
@@ -57,26 +66,26 @@ returns c =
 
 -- ballot k's record has no fault, and fits
 sound : (c : tie.After-enum-told Inv-loop μ-loop) →
-    let a = c .before .before .before .before .before .before .before .before .args in recordFault sha256 (now (a .board))
+    let a = (start-from-struct-known2 (c .before .before .before)) .args in recordFault sha256 (now (a .board))
     (headOf (now (a .board)) (a .h)) (a .stage .a) (a .stage .m) (c .before .before .before .before .before .before .loop .k) ≡ 0
 sound c = sym (rw (c .enum-told .given .1) at (c .before .before .record-fault .ensures))
 
 fitting : (c : tie.After-enum-told Inv-loop μ-loop) →
-    let a = c .before .before .before .before .before .before .before .before .args in
+    let a = (start-from-struct-known2 (c .before .before .before)) .args in
     (recordAt (a .h .n) (a .h .k) (a .stage .m) (c .before .before .before .before .before .before .loop .k) + recordLength (a .h .n) (a .stage .m) ≤
     length (now (a .board)))
     × (a .stage .size ≡ recordLength (a .h .n) (a .stage .m))
 fitting c =
-    let a = c .before .before .before .before .before .before .before .before .args in (
+    let a = (start-from-struct-known2 (c .before .before .before)) .args in (
       record-fits (now (a .board)) (headOf (now (a .board)) (a .h)) (a .stage .a) (a .stage .m)
           (c .before .before .before .before .before .before .loop .k) (sound c),
-      c .before .before .before .before .before .before .before .before .pre .1 .sized,
+      (start-from-struct-known2 (c .before .before .before)) .pre .1 .sized,
     )
 
 loop-again : tie.Need-loop-again Inv-loop μ-loop
 loop-again c =
-    let a = c .before .before .before .before .before .before .before .before .before .args in
-    let l = c .before .before .before .before .before .before .before .loop in
+    let a = (start-from-struct-known2 (c .before .before .before .before)) .args in
+    let l = (loop-from-match-keys2 (c .before .before)) .loop in
     let f = fitting (c .before) in
     let n = place-next (a .h .n) (a .h .k) (a .stage .m) (l .k) in
     (omega arith, omega (arith, l .inv .1), omega (arith, l .inv .1), none-more _ (l .k) (l .inv .3) (sound (c .before)))
@@ -91,13 +100,9 @@ returns-2 c =
 pub ballots-fault-spec : {M : Type 1} → statement M
 ballots-fault-spec =
     tie.close
-    (tie.spec Inv-loop μ-loop loop-holds (λ c. omega (arith, small (c .before), c .before .before .before .before .good))
-    (λ c. omega (arith, small (c .before .before), c .before .before .before .before .before .good)) record-fault-requires (λ c. search needs) returns
-    (λ c. search needs)
-    (λ c. omega (
+    (tie.spec Inv-loop μ-loop loop-holds (λ c. omega (arith, small (c .before), c .before .before .before .before .good)) (λ c. omega (arith, small (c .before .before), c .before .before .before .before .before .good)) record-fault-requires (λ c. search needs) returns (λ c. search needs) (λ c. omega (
       arith,
       fitting (c .before),
-      c .before .before .before .before .before .before .before .loop .inv .1,
-      c .before .before .before .before .before .before .before .before .before .good,
-    ))
-    (λ c. omega arith) (λ c. omega arith) loop-again returns-2)
+      (loop-from-match-keys2 (c .before .before)) .loop .inv .1,
+      (start-from-struct-known2 (c .before .before .before .before)) .good,
+    )) (λ c. omega arith) (λ c. omega arith) loop-again returns-2)

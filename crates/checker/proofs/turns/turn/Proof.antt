@@ -17,6 +17,33 @@ use Rattle.checker.proofs.RoundEnds.{Stepping, by-ballot, by-sheet, clo
 use Rattle.checker.proofs.turns.turn.Statement.{statement}
 use Rattle.checker.proofs.turns.turn.Tie as tie
 
+abbrev start-from-struct-known : tie.After-struct-known → tie.Start
+start-from-struct-known c = c .before .before .before .before .before
+
+abbrev start-from-match2-keys2 : tie.At-match2-keys2 → tie.Start
+start-from-match2-keys2 c = start-from-struct-known (c .before .before .before .before .before)
+
+abbrev start-from-known-told : tie.After-known-told → tie.Start
+start-from-known-told c = c .before .before .before .before .before
+
+abbrev enum-told-from-record-number2 : tie.After-record-number2 → tie.After-enum-told
+enum-told-from-record-number2 c = c .before .before .before .before .before
+
+abbrev start-from-refused3 : tie.After-refused3 → tie.Start
+start-from-refused3 c = start-from-match2-keys2 (c .before .before .before .before .before)
+
+abbrev enum-told-from-then1 : tie.Then1 → tie.After-enum-told
+enum-told-from-then1 c = enum-told-from-record-number2 (c .before .before .before .before .before)
+
+abbrev start-from-match2-keys1 : tie.At-match2-keys1 → tie.Start
+start-from-match2-keys1 c = start-from-struct-known (c .before .before .before .before .before)
+
+abbrev enum-told-from-else1 : tie.Else1 → tie.After-enum-told
+enum-told-from-else1 c = enum-told-from-record-number2 (c .before .before .before .before .before)
+
+abbrev start-from-match2-keys3 : tie.At-match2-keys3 → tie.Start
+start-from-match2-keys3 c = start-from-struct-known (c .before .before .before .before .before)
+
 -- what the ballots' records tell
 refused : (c : tie.After-known-told) →
     let a = c .before .before .before .before .before .args in
@@ -51,7 +78,7 @@ small c = rw (placed c) (none-found c .1)
 
 -- what the sheet tells where it closes the board
 closing : (c : tie.After-known-told3) →
-    let a = c .before .before .before .before .before .before .before .before .before .before .before .before .args in
+    let a = (start-from-match2-keys2 (c .before .before)) .args in
     Stepping (now (a .board)) (a .h) (a .count) (a .stage .m) (a .stage .a) (O.Closed (c .before .outcome2 .given .0 .0)) (c .before .before .before .before .before .sheet-step .result .count)
 closing c = rw (c .before .outcome2 .given .1) at (c .before .before .before .before .before .sheet-step .ensures)
 
@@ -62,7 +89,7 @@ record-number-requires c κs =
 
 returns : tie.Need-returns
 returns c =
-    let a = c .before .before .before .before .before .before .before .args in
+    let a = (start-from-known-told (c .before .before)) .args in
     rw (c .refused .ensures .0, c .refused .ensures .1)
     (by-ballot (now (a .board)) (a .h) (a .count) (a .stage .m) (a .stage .a) _ _ _ (refused (c .before .before) .1) (c .before .record-number .ensures .0))
 
@@ -73,8 +100,8 @@ sheet-step-requires c κs =
 
 add-if1 : tie.Need-add-if1
 add-if1 c =
-    let s = c .before .before .before .before .before .before .before .before .before .before .before .before .before in
-    let e = c .before .before .before .before .before .before .before .before .before in
+    let s = (start-from-match2-keys2 (c .before .before .before)) in
+    let e = (enum-told-from-record-number2 (c .before .before .before .before)) in
     omega (
       arith,
       closing-fits (now (s .args .board)) (s .args .h) (s .args .count) (s .args .stage .m) (s .args .stage .a) (none-found e .0) _ _ (closing (c .before)),
@@ -85,35 +112,32 @@ add-if1 c =
 
 returns-2 : tie.Need-returns-2
 returns-2 c =
-    let a = c .before .before .before .before .before .before .before .before .before .before .before .before .before .before .before .args in
-    let e = c .before .before .before .before .before .before .before .before .before .before .before in
+    let a = (start-from-refused3 c) .args in
+    let e = (enum-told-from-then1 (c .before)) in
     rw (c .refused3 .ensures .0, c .refused3 .ensures .1)
     (by-rest (now (a .board)) (a .h) (a .count) (a .stage .m) (a .stage .a) (none-found e .0) _ _ (closing (c .before .before .before)) _
     (λ l. omega (arith, ends e, c .before .before .sheet-length .ensures .0)) (ap (λ n. n + 1) (c .before .before .before .before .before .before .record-number2 .ensures .0)))
 
 returns-3 : tie.Need-returns-3
 returns-3 c =
-    let a = c .before .before .before .before .before .before .before .before .before .before .before .before .before .args in
+    let a = (start-from-match2-keys1 (c .before .before .before)) .args in
     rw (c .refused2 .ensures .0, c .refused2 .ensures .1)
-    (by-sheet (now (a .board)) (a .h) (a .count) (a .stage .m) (a .stage .a) (none-found (c .before .before .before .before .before .before .before .before .before) .0) _ _ _
+    (by-sheet (now (a .board)) (a .h) (a .count) (a .stage .m) (a .stage .a) (none-found ((enum-told-from-record-number2 (c .before .before .before .before))) .0) _ _ _
     (rw (c .before .before .outcome .given .1) at (c .before .before .before .before .before .before .sheet-step .ensures)) (c .before .before .before .before .record-number2 .ensures .0))
 
 returns-4 : tie.Need-returns-4
 returns-4 c =
-    let a = c .before .before .before .before .before .before .before .before .before .before .before .before .before .before .args in
-    let e = c .before .before .before .before .before .before .before .before .before .before in
+    let a = (start-from-match2-keys2 (c .before .before .before .before)) .args in
+    let e = (enum-told-from-else1 c) in
     by-end (now (a .board)) (a .h) (a .count) (a .stage .m) (a .stage .a) (none-found e .0) _ _ (closing (c .before .before)) (omega (arith, ends e, c .before .sheet-length .ensures .0))
 
 returns-5 : tie.Need-returns-5
 returns-5 c =
-    let a = c .before .before .before .before .before .before .before .before .before .before .before .before .args in
-    by-next (now (a .board)) (a .h) (a .count) (a .stage .m) (a .stage .a) (none-found (c .before .before .before .before .before .before .before .before) .0) _ _
+    let a = (start-from-match2-keys3 (c .before .before)) .args in
+    by-next (now (a .board)) (a .h) (a .count) (a .stage .m) (a .stage .a) (none-found ((enum-told-from-record-number2 (c .before .before .before))) .0) _ _
     (rw (c .before .outcome3 .given .1) at (c .before .before .before .before .before .sheet-step .ensures))
 
 pub turn-spec : {M : Type 1} → statement M
 turn-spec =
     tie.close
-    (tie.spec (λ c κs. search needs) (λ c. search needs) record-number-requires (λ c κs. search needs) returns (λ c. search needs)
-    (λ c. omega (arith, small (c .before), c .before .before .before .before .before .good)) (λ c. omega (arith, small (c .before .before), c .before .before .before .before .before .before .good)) sheet-step-requires
-    (λ c κs. search needs) (λ c. search needs) (λ c κs. search needs) (λ c. search needs) (λ c κs. search needs) add-if1
-    (λ c. search needs) (λ c κs. search needs) returns-2 (λ c. search needs) returns-3 returns-4 returns-5)
+    (tie.spec (λ c κs. search needs) (λ c. search needs) record-number-requires (λ c κs. search needs) returns (λ c. search needs) (λ c. omega (arith, small (c .before), c .before .before .before .before .before .good)) (λ c. omega (arith, small (c .before .before), c .before .before .before .before .before .before .good)) sheet-step-requires (λ c κs. search needs) (λ c. search needs) (λ c κs. search needs) (λ c. search needs) (λ c κs. search needs) add-if1 (λ c. search needs) (λ c κs. search needs) returns-2 (λ c. search needs) returns-3 returns-4 returns-5)

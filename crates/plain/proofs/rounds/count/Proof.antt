@@ -20,6 +20,9 @@ Inv-loop rankings n k count₀ count =
 abbrev μ-loop : tie.MeasureT-loop
 μ-loop rankings n k count₀ count = n - count .gone .outs
 
+abbrev start-from-tally : tie.After-tally Inv-loop μ-loop → tie.Start Inv-loop μ-loop
+start-from-tally c = c .before .before .before .before .before
+
 loop-holds : tie.Need-loop-holds Inv-loop μ-loop
 unfolding plainCount
 loop-holds c =
@@ -31,7 +34,7 @@ loop-holds c =
 returns : tie.Need-returns Inv-loop μ-loop
 returns c =
     let l = c .before .before .before .before .before .loop in
-    let f = c .before .before .before .before .before .before .before .before .args in
+    let f = (start-from-tally (c .before .before .before)) .args in
     let w = c .close .ensures in
     let e = count-ends (f .n) (f .k) (λ b. part (now (f .rankings)) (b * f .n) (f .n)) (l .count) _ _ (omega (arith, l .inv .1)) (l .inv .2) (c .before .before .before .tally .ensures) (sym (c .before .before .closes .ensures) ∙ c .before .if1 .taken) in
     (w .2 ∙ sym e, w .1, rw (w .0) (l .inv .1))
@@ -39,7 +42,7 @@ returns c =
 loop-again : tie.Need-loop-again Inv-loop μ-loop
 loop-again c =
     let l = c .before .before .before .before .before .before .loop in
-    let f = c .before .before .before .before .before .before .before .before .before .args in
+    let f = (start-from-tally (c .before .before .before .before)) .args in
     let h = c .next .ensures in
     let no = sym (c .before .before .before .closes .ensures) ∙ c .before .before .if1 .left in
     let last = not-last (f .n) _ (standingOf (f .n) (l .count)) _ (f .k) (sheets-many (f .n) (l .count) (l .inv .0)) no in (
@@ -52,12 +55,4 @@ loop-again c =
 pub count-spec : {M : Type 1} → statement M
 count-spec =
     tie.close
-    (tie.spec Inv-loop μ-loop (λ c κs. search needs) loop-holds
-    (λ c κs. let s = c .before .before .before .before in (omega (arith, s .pre), omega (arith, s .pre), omega (arith, s .pre), c .before .loop .inv .0 .listed))
-    (λ c. omega (arith, c .before .before .before .before .before .pre))
-    (λ c κs. let s = c .before .before .before .before .before in (c .before .before .loop .inv .0, omega (arith, s .pre), omega (arith, s .pre)))
-    (λ c κs. let s = c .before .before .before .before .before .before .before in let l = c .before .before .before .before .loop in (l .inv .0, omega (arith, l .inv .1, s .pre), omega (arith, s .pre)))
-    returns
-    (λ c κs. let s = c .before .before .before .before .before .before .before in (c .before .before .before .before .loop .inv .0, omega (arith, s .pre)))
-    (λ c κs. let s = c .before .before .before .before .before .before .before .before in let l = c .before .before .before .before .before .loop in (l .inv .0, omega (arith, l .inv .1, s .pre), omega (arith, c .leaves .ensures .1, s .pre)))
-    (λ c. omega (arith, c .next .ensures .0, c .before .before .before .before .before .before .loop .inv .1)) loop-again)
+    (tie.spec Inv-loop μ-loop (λ c κs. search needs) loop-holds (λ c κs. let s = c .before .before .before .before in (omega (arith, s .pre), omega (arith, s .pre), omega (arith, s .pre), c .before .loop .inv .0 .listed)) (λ c. omega (arith, c .before .before .before .before .before .pre)) (λ c κs. let s = c .before .before .before .before .before in (c .before .before .loop .inv .0, omega (arith, s .pre), omega (arith, s .pre))) (λ c κs. let s = (start-from-tally (c .before .before)) in let l = c .before .before .before .before .loop in (l .inv .0, omega (arith, l .inv .1, s .pre), omega (arith, s .pre))) returns (λ c κs. let s = (start-from-tally (c .before .before)) in (c .before .before .before .before .loop .inv .0, omega (arith, s .pre))) (λ c κs. let s = (start-from-tally (c .before .before .before)) in let l = c .before .before .before .before .before .loop in (l .inv .0, omega (arith, l .inv .1, s .pre), omega (arith, c .leaves .ensures .1, s .pre))) (λ c. omega (arith, c .next .ensures .0, c .before .before .before .before .before .before .loop .inv .1)) loop-again)

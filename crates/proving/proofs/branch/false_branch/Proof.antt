@@ -27,13 +27,22 @@ Inv-loop out₀ g page inverses n claim l statements draws at group e k₀ i₀ 
 abbrev μ-loop : tie.MeasureT-loop
 μ-loop out₀ g page inverses n claim l statements draws at group e k₀ i₀ out k i = statements - i
 
+abbrev start-from-group : tie.After-group Inv-loop μ-loop → tie.Start Inv-loop μ-loop
+start-from-group c = c .before .before .before .before .before
+
+abbrev start-from-slice-known2 : tie.After-slice-known2 Inv-loop μ-loop → tie.Start Inv-loop μ-loop
+start-from-slice-known2 c = start-from-group (c .before .before .before .before .before)
+
+abbrev start-from-put-false-arg : tie.After-put-false-arg Inv-loop μ-loop → tie.Start Inv-loop μ-loop
+start-from-put-false-arg c = start-from-slice-known2 (c .before .before .before .before .before)
+
 loop-holds : tie.Need-loop-holds Inv-loop μ-loop
 loop-holds c = (omega arith, refl, λ o h. h ∙ branch-none _ _ _ o, λ m h. fed-none _ m _ h)
 
 loop-again : tie.Need-loop-again Inv-loop μ-loop
 loop-again c =
     let l = c .before .before .before .before .before .before .before .loop in
-    let f = c .before .before .before .before .before .before .before .before .before .before .before .before .before .before .before .before .before .before .args in
+    let f = (start-from-put-false-arg (c .before .before .before)) .args in
     let g = parametersOf (f .g .group) in
     let t = falseTs g (claimOf (now (f .page)) g (f .n) (f .claim) (f .l)) (now (f .draws)) (f .at) in
     let r = falseRs (now (f .draws)) (f .at) in
@@ -47,35 +56,13 @@ loop-again c =
 returns : tie.Need-returns Inv-loop μ-loop
 returns c =
     let l = c .before .loop in
-    let e : l .i ≡ c .before .before .before .before .before .before .before .before .before .before .before .before .args .statements = omega arith in
+    let e : l .i ≡ (start-from-slice-known2 (c .before .before)) .args .statements = omega arith in
     rw (← e) (record { wrote = l .inv .2 _ (c .before .before .before .before .put-word .ensures); fed = l .inv .3 })
 
 claimed-requires : tie.Need-claimed-requires Inv-loop μ-loop
-claimed-requires c κs = let s = c .before .before .before .before .before .before .before .before .before .before .before .before in (s .pre .0 .0, s .pre .1 .1 (c .before .loop .i) (omega arith))
+claimed-requires c κs = let s = (start-from-slice-known2 (c .before .before)) in (s .pre .0 .0, s .pre .1 .1 (c .before .loop .i) (omega arith))
 
 pub false-branch-spec : {M : Type 1} → statement M
 false-branch-spec =
     tie.close
-    (tie.spec
-    Inv-loop
-    μ-loop
-    (λ c. search needs)
-    (λ c. search needs)
-    (λ c κs. search needs)
-    loop-holds
-    claimed-requires
-    (λ c. search needs)
-    (λ c. search needs)
-    (λ c. omega (arith, c .before .before .before .before .before .before .before .before .before .before .before .before .before))
-    (λ c. omega (arith, c .before .before .before .before .before .before .before .before .before .before .before .before .before))
-    (λ c. omega (arith, c .before .before .before .before .before .before .before .before .before .before .before .before .before))
-    (λ c. omega (arith, c .before .before .before .before .before .before .before .before .before .before .before .before .before .before))
-    (λ c. search needs)
-    (λ c. search needs)
-    (λ c. search needs)
-    (λ c κs. omega (arith, c .before .before .before .before .before .before .before .before .before .before .before .before .before .before .before))
-    (λ c. omega (arith, c .before .before .before .before .before .before .before .before .before .before .before .before .before .before .before .before .before .before .pre, c .before .before .before .before .before .before .loop-test .taken))
-    (λ c. search needs)
-    loop-again
-    (λ c. search needs)
-    returns)
+    (tie.spec Inv-loop μ-loop (λ c. search needs) (λ c. search needs) (λ c κs. search needs) loop-holds claimed-requires (λ c. search needs) (λ c. search needs) (λ c. omega (arith, (start-from-slice-known2 (c .before .before .before)))) (λ c. omega (arith, (start-from-slice-known2 (c .before .before .before)))) (λ c. omega (arith, (start-from-slice-known2 (c .before .before .before)))) (λ c. omega (arith, (start-from-slice-known2 (c .before .before .before .before)))) (λ c. search needs) (λ c. search needs) (λ c. search needs) (λ c κs. omega (arith, (start-from-put-false-arg c))) (λ c. omega (arith, (start-from-put-false-arg (c .before .before .before)) .pre, c .before .before .before .before .before .before .loop-test .taken)) (λ c. search needs) loop-again (λ c. search needs) returns)

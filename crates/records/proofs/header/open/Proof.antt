@@ -15,6 +15,9 @@ use Rattle.records.proofs.HeaderTable.{Shown, too-short, wrong-mark, wr
 use Rattle.records.proofs.header.open.Statement.{statement}
 use Rattle.records.proofs.header.open.Tie as tie
 
+abbrev shown-from-generators-good-arg : tie.After-generators-good-arg → tie.After-shown
+shown-from-generators-good-arg c = c .before .before .before .before .before
+
 -- what is read, and what the tests passed so far say
 read : (c : tie.After-shown) →
     Shown (now (c .before .before .before .before .before .before .before .args .board)) (c .before .before .byte .result) (c .before .number .result)
@@ -39,7 +42,7 @@ ordered c = sym (c .before .orders-good .ensures) ∙ not-false _ (c .if4 .left)
 generated : (c : tie.After-generators-good) →
     let s = now (c .before .before .before .before .before .before .before .before .before .before .before .before .before .before .args .board) in
     c .generators-good .result ≡ generators sha256 (part s 22 32) (counterField s)
-    (parametersOf (c .before .before .before .before .before .before .before .shown .result))
+    (parametersOf ((shown-from-generators-good-arg (c .before .before)) .shown .result))
 generated c = c .generators-good .ensures
 
 returns : tie.Need-returns
@@ -64,14 +67,14 @@ returns-4 c =
 returns-5 : tie.Need-returns-5
 unfolding Opening
 returns-5 c =
-    wrong-generators (read (c .before .before .before .before .before .before .before .before))
+    wrong-generators (read ((shown-from-generators-good-arg (c .before .before .before))))
     (sized (c .before .before .before .before .before .before)) (ordered (c .before .before .before .before))
     (sym (generated (c .before)) ∙ not-true _ (c .if5 .taken))
 
 returns-6 : tie.Need-returns-6
 unfolding Opening
 returns-6 c =
-    let shown = read (c .before .before .before .before .before .before .before .before .before) in
+    let shown = read ((shown-from-generators-good-arg (c .before .before .before .before))) in
     let size = sized (c .before .before .before .before .before .before .before) in
     let bounds = sizes-bounds (c .before .before .before .before .before .before .before .before .before .before .before .byte .result)
     (c .before .before .before .before .before .before .before .before .before .before .number .result) size in (
@@ -84,8 +87,4 @@ returns-6 c =
 pub open-spec : {M : Type 1} → statement M
 open-spec =
     tie.close
-    (tie.spec returns (λ c κs. search needs) returns-2 (λ c κs. search needs) (λ c κs. search needs) (λ c κs. search needs) (λ c κs. search needs)
-    returns-3
-    (λ c κs. search needs) returns-4 (λ c. search needs) (λ c. search needs) (λ c. search needs) (λ c. search needs)
-    (λ c κs. orders-positive _ _ _ _ (ordered (c .before .before))) returns-5
-    (λ c κs. orders-positive _ _ _ _ (ordered (c .before .before .before .before))) returns-6)
+    (tie.spec returns (λ c κs. search needs) returns-2 (λ c κs. search needs) (λ c κs. search needs) (λ c κs. search needs) (λ c κs. search needs) returns-3 (λ c κs. search needs) returns-4 (λ c. search needs) (λ c. search needs) (λ c. search needs) (λ c. search needs) (λ c κs. orders-positive _ _ _ _ (ordered (c .before .before))) returns-5 (λ c κs. orders-positive _ _ _ _ (ordered (c .before .before .before .before))) returns-6)

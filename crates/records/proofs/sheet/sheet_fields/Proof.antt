@@ -26,31 +26,46 @@ Inv-loop board m at n most q counts₀ s₀ place₀ i₀ counts s place i =
 abbrev μ-loop : tie.MeasureT-loop
 μ-loop board m at n most q counts₀ s₀ place₀ i₀ counts s place i = n - i
 
+abbrev start-from-count : tie.After-count Inv-loop μ-loop → tie.Start Inv-loop μ-loop
+start-from-count c = c .before .before .before .before .before
+
+abbrev start-from-match2-keys1 : tie.At-match2-keys1 Inv-loop μ-loop → tie.Start Inv-loop μ-loop
+start-from-match2-keys1 c = start-from-count (c .before .before .before .before .before)
+
+abbrev loop-from-known-told : tie.After-known-told Inv-loop μ-loop → tie.At-loop Inv-loop μ-loop
+loop-from-known-told c = c .before .before .before .before .before
+
+abbrev start-from-match2-keys2 : tie.At-match2-keys2 Inv-loop μ-loop → tie.Start Inv-loop μ-loop
+start-from-match2-keys2 c = start-from-count (c .before .before .before .before .before)
+
+abbrev loop-from-exponent : tie.After-exponent Inv-loop μ-loop → tie.In-loop Inv-loop μ-loop
+loop-from-exponent c = c .before .before .before .before .before
+
 loop-holds : tie.Need-loop-holds Inv-loop μ-loop
 unfolding table
 loop-holds c = (omega arith, omega arith, refl, refl, all-none _, refl, λ j l. absurd (omega arith))
 
 -- what the walk learns of a count and of an exponent
 counted : (c : tie.After-known-told Inv-loop μ-loop) →
-    let a = c .before .before .before .before .before .before .before .before .args in
+    let a = (start-from-count (c .before .before .before)) .args in
     let l = c .before .before .before .before .before .loop in
     let v = c .before .count2 .given .0 in
     (leb (half (now (a .board)) (a .at + 4 + 6 * l .i)) (a .h .k) ≡ true) × (v .1 .0 ≡ a .at + 6 + 6 * l .i)
     × (v .0 ≡ half (now (a .board)) (a .at + 4 + 6 * l .i))
 counted c =
-    let a = c .before .before .before .before .before .before .before .before .args in
+    let a = (start-from-count (c .before .before .before)) .args in
     let l = c .before .before .before .before .before .loop in
     let w = count-value (now (a .board)) (l .place) (a .h .k) (sym (c .before .before .before .count .ensures) ∙ c .before .count2 .given .1) in
     (rw (← l .inv .1) (w .0), omega (arith, w .1), rw (← l .inv .1) (w .2))
 
 raised : (c : tie.After-known-told2 Inv-loop μ-loop) →
-    let a = c .before .before .before .before .before .before .before .before .before .before .before .before .args in
-    let l = c .before .before .before .before .before .before .before .before .before .loop in
+    let a = (start-from-match2-keys1 (c .before .before)) .args in
+    let l = (loop-from-known-told (c .before .before .before .before)) .loop in
     let v = c .before .x .given .0 in
     (ltb (word (now (a .board)) (a .at + 6 + 6 * l .i)) (a .h .setup .group .q) ≡ true) × (v .1 .0 ≡ a .at + 4 + 6 * (l .i + 1))
     × (v .0 .0 ≡ word (now (a .board)) (a .at + 6 + 6 * l .i))
 raised c =
-    let a = c .before .before .before .before .before .before .before .before .before .before .before .before .args in
+    let a = (start-from-match2-keys1 (c .before .before)) .args in
     let e = counted (c .before .before .before .before) .1 in
     let w = exponent-value (now (a .board)) (c .before .before .before .before .before .count2 .given .0 .1 .0) (a .h .setup .group .q)
     (sym (c .before .before .before .exponent .ensures) ∙ c .before .x .given .1) in
@@ -59,34 +74,34 @@ raised c =
 returns : tie.Need-returns Inv-loop μ-loop
 unfolding Counted
 returns c =
-    let a = c .before .before .before .before .before .before .before .args in
+    let a = (start-from-count (c .before .before)) .args in
     let l = c .before .before .before .before .loop in
-    count-large (now (a .board)) (a .h) (a .m) (a .at) (c .before .before .before .before .before .before .before .pre .1) (a .h .n) (l .i) (c .before .before .before .loop-test .taken) (l .inv .4)
+    count-large (now (a .board)) (a .h) (a .m) (a .at) ((start-from-count (c .before .before)) .pre .1) (a .h .n) (l .i) (c .before .before .before .loop-test .taken) (l .inv .4)
     (rw (← l .inv .1) (count-refused (now (a .board)) (l .place) (a .h .k) (sym (c .before .before .count .ensures) ∙ c .enum-told .given .1)))
 
 returns-2 : tie.Need-returns-2 Inv-loop μ-loop
 unfolding Counted
 returns-2 c =
-    let a = c .before .before .before .before .before .before .before .before .before .before .before .args in
-    let l = c .before .before .before .before .before .before .before .before .loop in
+    let a = (start-from-match2-keys2 (c .before)) .args in
+    let l = (loop-from-known-told (c .before .before .before)) .loop in
     let k = counted (c .before .before .before) in
-    exponent-large (now (a .board)) (a .h) (a .m) (a .at) (c .before .before .before .before .before .before .before .before .before .before .before .pre .1) (a .h .n) (l .i) (c .before .before .before .before .before .before .before .loop-test .taken) (l .inv .4) (k .0)
+    exponent-large (now (a .board)) (a .h) (a .m) (a .at) ((start-from-match2-keys2 (c .before)) .pre .1) (a .h .n) (l .i) ((loop-from-exponent (c .before .before)) .loop-test .taken) (l .inv .4) (k .0)
     (rw (← k .1) (exponent-refused (now (a .board)) (c .before .before .before .before .count2 .given .0 .1 .0) (a .h .setup .group .q)
     (sym (c .before .before .exponent .ensures) ∙ c .enum-told2 .given .1)))
 
 loop-again : tie.Need-loop-again Inv-loop μ-loop
 loop-again c =
-    let a = c .before .before .before .before .before .before .before .before .before .before .before .before .args in
-    let l = c .before .before .before .before .before .before .before .before .before .loop in
+    let a = (start-from-match2-keys1 (c .before .before)) .args in
+    let l = (loop-from-known-told (c .before .before .before .before)) .loop in
     let k = counted (c .before .before .before .before) in
     let x = raised c in (
-      omega (arith, c .before .before .before .before .before .before .before .before .loop-test .taken),
+      omega (arith, (loop-from-exponent (c .before .before .before)) .loop-test .taken),
       x .1,
       simp length-set (l .inv .2),
       simp length-set (l .inv .3),
       all-more _ _ (l .inv .4) (rw (k .0) (x .0)),
-      table-more (λ i. half (now (a .board)) (a .at + 4 + 6 * i)) (l .counts) (l .i) _ (omega (arith, c .before .before .before .before .before .before .before .before .loop-test .taken, c .before .before .before .before .before .before .before .before .before .before .before .before .pre .0 .high)) (l .inv .5) (k .2),
-      exponents-more (λ i. word (now (a .board)) (a .at + 6 + 6 * i)) (l .s) (l .i) _ (omega (arith, c .before .before .before .before .before .before .before .before .loop-test .taken, c .before .before .before .before .before .before .before .before .before .before .before .before .pre .0 .high)) (l .inv .6) (x .2),
+      table-more (λ i. half (now (a .board)) (a .at + 4 + 6 * i)) (l .counts) (l .i) _ (omega (arith, (loop-from-exponent (c .before .before .before)) .loop-test .taken, (start-from-match2-keys1 (c .before .before)) .pre .0 .high)) (l .inv .5) (k .2),
+      exponents-more (λ i. word (now (a .board)) (a .at + 6 + 6 * i)) (l .s) (l .i) _ (omega (arith, (loop-from-exponent (c .before .before .before)) .loop-test .taken, (start-from-match2-keys1 (c .before .before)) .pre .0 .high)) (l .inv .6) (x .2),
     )
 
 returns-3 : tie.Need-returns-3 Inv-loop μ-loop
@@ -104,6 +119,4 @@ returns-3 c =
 pub sheet-fields-spec : {M : Type 1} → statement M
 sheet-fields-spec =
     tie.close
-    (tie.spec Inv-loop μ-loop (λ c. search needs) (λ c. omega (arith, c .before .before .good)) loop-holds (λ c κs. omega arith) (λ c. search needs) (λ c. search needs) returns
-    (λ c κs. omega (arith, counted c .1)) (λ c. search needs) (λ c. search needs) returns-2 (λ c. omega (arith, c .before .before .before .before .before .before .before .before .loop-test .taken, c .before .before .before .before .before .before .before .before .before .before .before .before .pre .0 .high)) (λ c. omega (arith, c .before .before .before .before .before .before .before .before .loop-test .taken, c .before .before .before .before .before .before .before .before .before .before .before .before .pre .0 .high)) (λ c. omega (arith, c .before .before .before .before .before .before .before .before .loop-test .taken, c .before .before .before .before .before .before .before .before .before .before .before .before .pre .0 .high)) (λ c. omega (arith, c .before .before .before .before .before .before .before .before .loop-test .taken, c .before .before .before .before .before .before .before .before .before .before .before .before .pre .0 .high))
-    (λ c. omega (arith, c .before .before .before .before .before .before .before .before .loop-test .taken, c .before .before .before .before .before .before .before .before .before .before .before .before .pre .0 .high)) (λ c. omega (arith, c .before .before .before .before .before .before .before .before .loop-test .taken, c .before .before .before .before .before .before .before .before .before .before .before .before .pre .0 .high)) loop-again returns-3)
+    (tie.spec Inv-loop μ-loop (λ c. search needs) (λ c. omega (arith, c .before .before .good)) loop-holds (λ c κs. omega arith) (λ c. search needs) (λ c. search needs) returns (λ c κs. omega (arith, counted c .1)) (λ c. search needs) (λ c. search needs) returns-2 (λ c. omega (arith, (loop-from-exponent (c .before .before .before)) .loop-test .taken, (start-from-match2-keys1 (c .before .before)) .pre .0 .high)) (λ c. omega (arith, (loop-from-exponent (c .before .before .before)) .loop-test .taken, (start-from-match2-keys1 (c .before .before)) .pre .0 .high)) (λ c. omega (arith, (loop-from-exponent (c .before .before .before)) .loop-test .taken, (start-from-match2-keys1 (c .before .before)) .pre .0 .high)) (λ c. omega (arith, (loop-from-exponent (c .before .before .before)) .loop-test .taken, (start-from-match2-keys1 (c .before .before)) .pre .0 .high)) (λ c. omega (arith, (loop-from-exponent (c .before .before .before)) .loop-test .taken, (start-from-match2-keys1 (c .before .before)) .pre .0 .high)) (λ c. omega (arith, (loop-from-exponent (c .before .before .before)) .loop-test .taken, (start-from-match2-keys1 (c .before .before)) .pre .0 .high)) loop-again returns-3)

@@ -39,6 +39,18 @@ Inv-branches board label inverses at branches statements g n claim h₀ sum₀ o
 abbrev μ-branches : tie.MeasureT-branches
 μ-branches board label inverses at branches statements g n claim h₀ sum₀ ok₀ l₀ h sum ok l = branches - l
 
+abbrev start-from-update : tie.After-update → tie.Start
+start-from-update c = c .before .before .before .before .before
+
+abbrev start-from-loop : tie.At-loop → tie.Start
+start-from-loop c = start-from-update (c .before .before .before .before .before)
+
+abbrev start-from-update2 : tie.After-update2 → tie.Start
+start-from-update2 c = start-from-loop (c .before .before .before .before .before)
+
+abbrev start-from-digest : tie.After-digest → tie.Start
+start-from-digest c = start-from-update (c .before .before .before .before .before)
+
 branches-holds : tie.Need-branches-holds Inv-loop μ-loop Inv-branches μ-branches
 unfolding sumBelow
 branches-holds c =
@@ -47,27 +59,27 @@ branches-holds c =
 
 -- the branch is on the board, and so is the statement
 branch-fits : (c : tie.In-branches Inv-loop μ-loop Inv-branches μ-branches) →
-    let a = c .before .before .before .before .before .before .before .args in
+    let a = (start-from-update (c .before .before)) .args in
     (branchAt (a .at) (a .statements) (c .before .branches .l) + (4 + 12 * a .statements) ≤ length (now (a .board))) ×
     (length (now (a .board)) < 2 ^ 64)
 branch-fits c =
-    let a = c .before .before .before .before .before .before .before .args in (
+    let a = (start-from-update (c .before .before)) .args in (
       branch-within (a .at) (a .branches) (a .statements) (c .before .branches .l) (length (now (a .board)))
-          (c .before .before .before .before .before .before .before .pre .1 .0) (c .branches-test .taken),
-      omega (arith, c .before .before .before .before .before .before .before .good),
+          ((start-from-update (c .before .before)) .pre .1 .0) (c .branches-test .taken),
+      omega (arith, (start-from-update (c .before .before)) .good),
     )
 
 fits : (c : tie.In-loop Inv-loop μ-loop Inv-branches μ-branches) →
-    let a = c .before .before .before .before .before .before .before .before .before .before .before .args in
+    let a = (start-from-loop (c .before)) .args in
     (statementAt (a .at) (a .statements) (c .before .before .before .before .before .branches .l) (c .before .loop .i) + 12 ≤ length
     (now (a .board))) × (length (now (a .board)) < 2 ^ 64)
 fits c =
-    let a = c .before .before .before .before .before .before .before .before .before .before .before .args in (
+    let a = (start-from-loop (c .before)) .args in (
       within (a .at) (a .branches) (a .statements) (c .before .before .before .before .before .branches .l) (c .before .loop .i)
           (length (now (a .board)))
-          (c .before .before .before .before .before .before .before .before .before .before .before .pre .1 .0)
+          ((start-from-loop (c .before)) .pre .1 .0)
           (c .before .before .before .before .branches-test .taken) (c .loop-test .taken),
-      omega (arith, c .before .before .before .before .before .before .before .before .before .before .before .good),
+      omega (arith, (start-from-loop (c .before)) .good),
     )
 
 loop-holds : tie.Need-loop-holds Inv-loop μ-loop Inv-branches μ-branches
@@ -77,7 +89,7 @@ loop-holds c =
 
 statement-at-requires : tie.Need-statement-at-requires Inv-loop μ-loop Inv-branches μ-branches
 statement-at-requires c κs =
-    let pre = c .before .before .before .before .before .before .before .before .before .before .before .pre in (
+    let pre = (start-from-loop (c .before)) .pre in (
       pre .0,
       (
         fits c .0,
@@ -88,7 +100,7 @@ statement-at-requires c κs =
 
 -- what the callee says, at the statement's number
 this : (c : tie.After-statement-at Inv-loop μ-loop Inv-branches μ-branches) →
-    let a = c .before .before .before .before .before .before .before .before .before .before .before .before .args in
+    let a = (start-from-loop (c .before .before)) .args in
     c .statement-at .result
     ≡ here (now (a .board)) (parametersOf (a .g .group)) (claimOf (now (a .board)) (parametersOf (a .g .group)) (a .n) (a .claim)) (a .at)
     (a .statements)
@@ -97,11 +109,11 @@ this c = rw (← c .before .before .before .before .as-exponent .ensures) (c .st
 
 add-i : tie.Need-add-i Inv-loop μ-loop Inv-branches μ-branches
 add-i c =
-    omega (arith, c .before .before .before .before .before .before .before .before .before .before .before .before .before .before .before .fits .statements, c .before .before .before .before .loop-test .taken)
+    omega (arith, (start-from-update2 c) .fits .statements, c .before .before .before .before .loop-test .taken)
 
 loop-again : tie.Need-loop-again Inv-loop μ-loop Inv-branches μ-branches
 loop-again c =
-    let a = c .before .before .before .before .before .before .before .before .before .before .before .before .before .before .before .args in
+    let a = (start-from-update2 c) .args in
     let o = c .before .before .before .before .before .before .before .before .before .branches in
     let t = c .before .before .before .before .before .loop in (
       omega (arith, c .before .before .before .before .loop-test .taken),
@@ -113,7 +125,7 @@ loop-again c =
 
 branches-again : tie.Need-branches-again Inv-loop μ-loop Inv-branches μ-branches
 branches-again c =
-    let a = c .before .before .before .before .before .before .before .before .before .before .before .args in
+    let a = (start-from-loop (c .before)) .args in
     let o = c .before .before .before .before .before .branches in
     let t = c .before .loop in
     let e : t .i ≡ a .statements = omega arith in (
@@ -141,13 +153,13 @@ record Done (c : tie.Left-branches Inv-loop μ-loop Inv-branches μ-branches) : 
 
 -- where the ways out of the loops meet
 after : (c : tie.Left-branches Inv-loop μ-loop Inv-branches μ-branches) →
-    let a = c .before .before .before .before .before .before .before .args in
+    let a = (start-from-update (c .before .before)) .args in
     (c .branches-test .ok ≡ true → Done c)
     × (c .branches-test .ok ≡ false →
     false ≡ proofHolds (now (a .board)) (a .at) (a .branches) (a .statements) sha256 (now (a .label)) (parametersOf (a .g .group))
     (claimOf (now (a .board)) (parametersOf (a .g .group)) (a .n) (a .claim)))
 after c =
-    let a = c .before .before .before .before .before .before .before .args in
+    let a = (start-from-update (c .before .before)) .args in
     let o = c .before .branches in
     ⊎-elim
     (λ w.
@@ -179,7 +191,7 @@ after c =
 
 returns-2 : tie.Need-returns-2 Inv-loop μ-loop Inv-branches μ-branches
 returns-2 c =
-    let a = c .before .before .before .before .before .before .before .before .before .before .before .before .before .args in
+    let a = (start-from-digest (c .before .before .before)) .args in
     let k = after (c .before .before .before .before .before .before) .0 (not-false _ (c .before .before .before .before .before .if2 .left)) in
     sums-up (now (a .board)) (now (a .label)) (parametersOf (a .g .group)) (claimOf (now (a .board)) (parametersOf (a .g .group)) (a .n) (a .claim))
     (a .at) (a .branches) (a .statements) _ _ (k .all) (k .sum)
@@ -189,10 +201,4 @@ returns-2 c =
 pub proof-holds-spec : {M : Type 1} → statement M
 proof-holds-spec =
     tie.close
-    (tie.spec Inv-loop μ-loop Inv-branches μ-branches (λ c κs. search needs) (λ c κs. search needs) branches-holds
-    (λ c. omega (arith, branch-fits c)) (λ c. omega (arith, branch-fits c)) (λ c. omega (arith, branch-fits c)) (λ c. omega (arith, branch-fits c))
-    (λ c κs. omega (arith, branch-fits c)) (λ c κs. search needs) loop-holds (λ c. omega (arith, fits c)) (λ c. omega (arith, fits c))
-    (λ c. omega (arith, fits c)) statement-at-requires (λ c. omega (arith, fits (c .before .before))) (λ c. omega (arith, fits (c .before .before)))
-    (λ c. omega (arith, fits (c .before .before))) (λ c. omega (arith, fits (c .before .before))) (λ c κs. search needs) add-i (λ c. omega arith)
-    loop-again (λ c. omega arith) (λ c. omega arith) branches-again (λ c. after (c .before) .1 (not-true _ (c .if2 .taken)))
-    (λ c κs. search needs) (λ c κs. search needs) returns-2)
+    (tie.spec Inv-loop μ-loop Inv-branches μ-branches (λ c κs. search needs) (λ c κs. search needs) branches-holds (λ c. omega (arith, branch-fits c)) (λ c. omega (arith, branch-fits c)) (λ c. omega (arith, branch-fits c)) (λ c. omega (arith, branch-fits c)) (λ c κs. omega (arith, branch-fits c)) (λ c κs. search needs) loop-holds (λ c. omega (arith, fits c)) (λ c. omega (arith, fits c)) (λ c. omega (arith, fits c)) statement-at-requires (λ c. omega (arith, fits (c .before .before))) (λ c. omega (arith, fits (c .before .before))) (λ c. omega (arith, fits (c .before .before))) (λ c. omega (arith, fits (c .before .before))) (λ c κs. search needs) add-i (λ c. omega arith) loop-again (λ c. omega arith) (λ c. omega arith) branches-again (λ c. after (c .before) .1 (not-true _ (c .if2 .taken))) (λ c κs. search needs) (λ c κs. search needs) returns-2)
