@@ -1,4 +1,4 @@
--- The proofs of a ballot in the terms of its matrix. Assumes nothing.
+-- The proofs of a ballot in the terms of its matrix.
 use Prim.Native.Nat.{ℕ, zero, suc, _+_, _*_, _/_, _%_, _≤_, _<_}
 use mathlib.Core.Path.{_≡_, refl, ap, _∙_}
 use mathlib.Core.List.{List}
@@ -15,22 +15,22 @@ use Rattle.statements.specs.declared.claims.Claim.the-variants.{Entry}
 use Rattle.statements.specs.Claims.{claimOf, Within}
 use Rattle.jobs.proofs.Matrices.{SameMatrix, entry-same}
 use Rattle.proving.specs.declared.Plan.{Plan}
-use Rattle.proving.specs.Plans.{Spread, Drawn, Planned, witnessAt, proofOf}
+use Rattle.proving.specs.Plans.{DrawsBelow, PlanDraws, Planned, witnessAt, proofOf}
 use Rattle.jobs.proofs.Same.{proof-same}
 use Rattle.jobs.proofs.Lengths.{length-proof}
 use Rattle.ballots.specs.Parts.{lineOf, entryIn}
 use Rattle.jobs.specs.Records.{opened, matrixOf, lineProver}
 use Rattle.jobs.specs.Prover.{proofBytes}
 
-pub spread-part : (q : ℕ) (draws : List ℕ) (from total at count : ℕ) → Spread q draws from total → at + count ≤ from + total → Spread q draws at count
+pub spread-part : (q : ℕ) (draws : List ℕ) (from total at count : ℕ) → DrawsBelow q draws from total → at + count ≤ from + total → DrawsBelow q draws at count
 spread-part q draws from total at count s h =
     record { positive = s .positive; low = s .low; near = omega (arith, s .near); enough = omega (arith, s .enough); below = λ d k. s .below d (omega arith) }
 
 abbrev pub planOf : (b s v from : ℕ) → Plan
 planOf b s v from = record { branches = b; statements = s; known = v; from = from }
 
-pub drawn-of : (q : ℕ) (draws : List ℕ) (b s v from count : ℕ) → Spread q draws from count → b * (1 + s) ≡ count + 1 → b ≤ 8 → v < b → s < 100 →
-    Drawn q (planOf b s v from) draws
+pub drawn-of : (q : ℕ) (draws : List ℕ) (b s v from count : ℕ) → DrawsBelow q draws from count → b * (1 + s) ≡ count + 1 → b ≤ 8 → v < b → s < 100 →
+    PlanDraws q (planOf b s v from) draws
 drawn-of q draws b s v from count w e few inside small =
     record {
       positive = w .positive;
@@ -44,13 +44,13 @@ drawn-of q draws b s v from count w e few inside small =
     }
 
 -- a proof of one statement claims nothing outside the known branch
-pub planned-line : (g : Parameters) (page inverses : List ℕ) (n : ℕ) (claim : Claim) (draws : List ℕ) (from : ℕ) → Spread (g .q) draws from 1 →
+pub planned-line : (g : Parameters) (page inverses : List ℕ) (n : ℕ) (claim : Claim) (draws : List ℕ) (from : ℕ) → DrawsBelow (g .q) draws from 1 →
     Planned g page inverses n claim (planOf 1 1 0 from) draws
 planned-line g page inverses n claim draws from w =
     record { drawn = drawn-of (g .q) draws 1 1 0 from 1 w refl (omega arith) (omega arith) (omega arith); ready = λ l i h k m. absurd (m (omega arith)) }
 
 pub planned-entry : (g : Parameters) (page inverses : List ℕ) (n i j : ℕ) (draws : List ℕ) (v from : ℕ) → v < 2 → i < n → j < n → 4 + 8 * (n * n) ≤ length page →
-    Spread (g .q) draws from 3 → Planned g page inverses n (Entry 0 i j) (planOf 2 1 v from) draws
+    DrawsBelow (g .q) draws from 3 → Planned g page inverses n (Entry 0 i j) (planOf 2 1 v from) draws
 unfolding Within
 planned-entry g page inverses n i j draws v from hv hi hj long w =
     record { drawn = drawn-of (g .q) draws 2 1 v from 3 w refl (omega arith) hv (omega arith); ready = λ l k h m e. (hi, hj, omega arith) }

@@ -1,4 +1,4 @@
--- Matrices on a page. Assumes nothing.
+-- Matrices on a page.
 use Prim.Native.Nat.{ℕ, _+_, _*_, _-_, _/_, _%_, _≤_, _<_, _^_}
 use mathlib.Core.Path.{_≡_, sym, ap, _∙_}
 use mathlib.Core.List.{List, _++_}
@@ -7,7 +7,7 @@ use native.Mathlib.Omega.{arith}
 use borrow.Rule.Slice.PartMut.{midOf, putMid}
 use lib.ListN.{length, getD, take, drop, length-append, length-take, length-drop, List·getD-append}
 use lib.Seq.{getD-take, length-take-le}
-use Rattle.numbers.specs.Below.{blocks}
+use Rattle.numbers.specs.Below.{concatBelow}
 use Rattle.numbers.proofs.Blocks.{blocks-same, blocks-grid}
 use Rattle.group.specs.Arithmetic.{powMod}
 use Rattle.group.specs.Elements.{Parameters}
@@ -64,7 +64,7 @@ two-stand a k a' k' l r r' x y e e' apart fit fit' er er' =
     )
 
 -- rows of n lists, counted through
-pub grid : (rows n : ℕ) (G : ℕ → ℕ → List ℕ) → 0 < n → blocks (rows * n) (λ c. G (c / n) (c % n)) ≡ blocks rows (λ i. blocks n (G i))
+pub grid : (rows n : ℕ) (G : ℕ → ℕ → List ℕ) → 0 < n → concatBelow (rows * n) (λ c. G (c / n) (c % n)) ≡ concatBelow rows (λ i. concatBelow n (G i))
 grid rows n G h =
     sym (blocks-grid rows n (λ c. G (c / n) (c % n)))
     ∙ blocks-same rows _ _ (λ i k. blocks-same n _ _ (λ j l.
@@ -76,7 +76,7 @@ grid rows n G h =
 abbrev pub pairIn : (n : ℕ) → Matrix → ℕ → List ℕ
 pairIn n M c = bytes4 (M .b (c / n) (c % n)) ++ bytes4 (M .y (c / n) (c % n))
 
-pub pairs-through : (n rows : ℕ) (M : Matrix) → 0 < n → blocks (rows * n) (pairIn n M) ≡ pairBytes n M rows
+pub pairs-through : (n rows : ℕ) (M : Matrix) → 0 < n → concatBelow (rows * n) (pairIn n M) ≡ pairBytes n M rows
 pairs-through n rows M h = grid rows n (λ i j. bytes4 (M .b i j) ++ bytes4 (M .y i j)) h
 
 module _ (g : Parameters) (n : ℕ) (list : ℕ → ℕ) (draws : List ℕ) (from : ℕ) where

@@ -1,10 +1,10 @@
--- A ballot's record from its parts. Assumes nothing.
+-- A ballot's record from its parts.
 use Prim.Native.Nat.{ℕ, _+_, _*_, _<_}
 use mathlib.Core.Path.{_≡_}
 use mathlib.Core.List.{List, _++_, append-assoc}
 use native.Mathlib.Omega.{arith}
 use lib.ListN.{length}
-use Rattle.numbers.specs.Below.{sumBelow, blocks}
+use Rattle.numbers.specs.Below.{sumBelow, concatBelow}
 use Rattle.numbers.proofs.Blocks.{length-blocks}
 use Rattle.rules.specs.Bytes.{bytes2}
 use Rattle.group.specs.Elements.{Parameters}
@@ -31,10 +31,10 @@ module _ (label : List ℕ) (g : Parameters) (n number : ℕ) (list : ℕ → �
   abbrev pub headed : List ℕ
   headed = BA ++ bytes2 number
 
-  pub length-entries : (count : ℕ) → length (blocks count (entryIn label g n list draws from)) ≡ 32 * count
+  pub length-entries : (count : ℕ) → length (concatBelow count (entryIn label g n list draws from)) ≡ 32 * count
   length-entries count = let e = length-blocks count 32 (entryIn label g n list draws from) (λ i h. length-proof sha256 label g _) in omega arith
 
-  lines-are : blocks (n + n) (lineOf label g n M draws from) ≡ blocks n (λ i. proofBytes g (rowProver g n list draws from i) sha256 label) ++ blocks n (λ j. proofBytes g (columnProver g n list draws from j) sha256 label)
+  lines-are : concatBelow (n + n) (lineOf label g n M draws from) ≡ concatBelow n (λ i. proofBytes g (rowProver g n list draws from i) sha256 label) ++ concatBelow n (λ j. proofBytes g (columnProver g n list draws from j) sha256 label)
   unfolding lineOf
   lines-are =
       blocks-lines n _ _ _
@@ -44,7 +44,7 @@ module _ (label : List ℕ) (g : Parameters) (n number : ℕ) (list : ℕ → �
       rw (by-column-of n (rowClaim g n M) (columnClaim g n M) j, by-column-of n rowSum columnSum j, e))
 
   pub proofs-joined : 0 < n →
-      blocks (n * n) (entryIn label g n list draws from) ++ blocks (n + n) (lineOf label g n M draws from) ≡ ballotProofBytes sha256 label g n list draws from
+      concatBelow (n * n) (entryIn label g n list draws from) ++ concatBelow (n + n) (lineOf label g n M draws from) ≡ ballotProofBytes sha256 label g n list draws from
   unfolding ballotProofBytes
   proofs-joined h = rw (grid n n (λ i j. proofBytes g (entryProver g n list draws from i j) sha256 label) h, lines-are, append-assoc)
 

@@ -1,4 +1,4 @@
--- Sums of secrets, one more at a time, and the witnesses of a shift. Assumes nothing.
+-- Sums of secrets, one more at a time, and the witnesses of a shift.
 use Prim.Native.Nat.{ℕ, suc, _+_, _*_, _-_, _/_, _%_, _≤_, _<_}
 use mathlib.Core.Path.{_≡_, ap, _∙_}
 use mathlib.Core.Bool.{cond}

@@ -1,4 +1,4 @@
--- A shift's record from its parts. Assumes nothing.
+-- A shift's record from its parts.
 use Prim.Native.Nat.{ℕ, _+_, _*_, _≤_}
 use mathlib.Core.Path.{_≡_}
 use mathlib.Core.List.{List, _++_}

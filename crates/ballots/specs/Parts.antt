@@ -14,7 +14,7 @@ use Rattle.rules.specs.Claims.{Matrix, rowClaim, columnClaim}
 use Rattle.statements.specs.Lines.{byLine}
 use Rattle.jobs.specs.Prover.{proofBytes}
 use Rattle.jobs.specs.Records.{secretAt, matrixOf, pairBytes, lineProver, entryProver, shiftWitness, shiftProver, shiftBytes}
-use Rattle.proving.specs.Plans.{Spread, witnessAt}
+use Rattle.proving.specs.Plans.{DrawsBelow, witnessAt}
 use Rattle.ballots.specs.declared.shift.Shift.{Shift}
 
 -- a matrix stands on a page as in the record at a place
@@ -53,8 +53,8 @@ pub record Shifting (p q : ℕ) (s : Shift) (draws : List ℕ) : Type 0 where
   pub fewer : s .rows < 8
   pub inside : s .column < s .n
   pub within : s .struck ≤ s .rows
-  pub olds : Spread q draws (s .old) ((s .rows + 1) * s .n)
-  pub news : Spread q draws (s .new) (s .rows * s .n + (s .rows + 1) * (3 + s .rows * s .n) - 1)
+  pub olds : DrawsBelow q draws (s .old) ((s .rows + 1) * s .n)
+  pub news : DrawsBelow q draws (s .new) (s .rows * s .n + (s .rows + 1) * (3 + s .rows * s .n) - 1)
 
 -- the matrices of a shift, its proof and its record
 abbrev pub oldMatrix : Parameters → Shift → (draws : List ℕ) → Matrix

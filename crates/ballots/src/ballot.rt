@@ -9,11 +9,11 @@ use statements::claims::Claim;
 ghost use mathlib.Core.Path.{_≡_};
 ghost use Prim.Native.Nat.{_+_, _*_, _^_, _≤_, _<_};
 ghost use lib.ListN.{length, getD};
-ghost use Rattle.numbers.specs.Below.{blocks};
+ghost use Rattle.numbers.specs.Below.{concatBelow};
 ghost use Rattle.group.specs.Elements.{parametersOf};
 ghost use Rattle.statements.specs.Values.{Ready};
 ghost use Rattle.output.specs.Written.{written};
-ghost use Rattle.proving.specs.Plans.{Spread};
+ghost use Rattle.proving.specs.Plans.{DrawsBelow};
 ghost use Rattle.jobs.specs.Records.{matrixOf, ballotProofBytes, ballotBytes};
 ghost use Rattle.sha256.specs.Message.{sha256};
 ghost use Rattle.ballots.specs.Parts.{Paged, entryIn};
@@ -41,7 +41,7 @@ fn write_entry(
     c: usize,
 )
     requires { ⌜ Ready g × (0 < n) × (n ≤ 8) × (c < n * n) × (32 ≤ length (now out)) × (516 ≤ length (now page)) ⌝ }
-    requires { ⌜ Spread (g .group .q) (now draws) from (4 * (n * n) + 2 * n) ⌝ }
+    requires { ⌜ DrawsBelow (g .group .q) (now draws) from (4 * (n * n) + 2 * n) ⌝ }
     requires { ⌜ Paged (now page) 0 n n (matrixOf (parametersOf (g .group)) n (λ k. getD list k 0) (now draws) from) ⌝ }
     ensures { λ _. ⌜ now (out .exit) ≡ written (entryIn (now (label .entry)) (parametersOf (g .group)) n (λ k. getD list k 0) (now (draws .entry)) from c) (now (out .entry)) ⌝ }
 {
@@ -75,9 +75,9 @@ fn write_entries(
     from: usize,
 )
     requires { ⌜ Ready g × (0 < n) × (n ≤ 8) × (32 * (n * n) ≤ length (now out)) × (516 ≤ length (now page)) ⌝ }
-    requires { ⌜ Spread (g .group .q) (now draws) from (4 * (n * n) + 2 * n) ⌝ }
+    requires { ⌜ DrawsBelow (g .group .q) (now draws) from (4 * (n * n) + 2 * n) ⌝ }
     requires { ⌜ Paged (now page) 0 n n (matrixOf (parametersOf (g .group)) n (λ k. getD list k 0) (now draws) from) ⌝ }
-    ensures { λ _. ⌜ now (out .exit) ≡ written (blocks (n * n) (entryIn (now (label .entry)) (parametersOf (g .group)) n (λ k. getD list k 0) (now (draws .entry)) from)) (now (out .entry)) ⌝ }
+    ensures { λ _. ⌜ now (out .exit) ≡ written (concatBelow (n * n) (entryIn (now (label .entry)) (parametersOf (g .group)) n (λ k. getD list k 0) (now (draws .entry)) from)) (now (out .entry)) ⌝ }
 {
     let count = n * n;
     for c in 0..count {
@@ -98,7 +98,7 @@ fn write_proofs(
     from: usize,
 )
     requires { ⌜ Ready g × (0 < n) × (n ≤ 8) × (32 * (n * n) + 32 * n ≤ length (now out)) × (516 ≤ length (now page)) ⌝ }
-    requires { ⌜ Spread (g .group .q) (now draws) from (4 * (n * n) + 2 * n) ⌝ }
+    requires { ⌜ DrawsBelow (g .group .q) (now draws) from (4 * (n * n) + 2 * n) ⌝ }
     requires { ⌜ Paged (now page) 0 n n (matrixOf (parametersOf (g .group)) n (λ k. getD list k 0) (now draws) from) ⌝ }
     ensures { λ _. ⌜ now (out .exit) ≡ written (ballotProofBytes sha256 (now (label .entry)) (parametersOf (g .group)) n (λ k. getD list k 0) (now (draws .entry)) from) (now (out .entry)) ⌝ }
 {
@@ -119,7 +119,7 @@ pub fn write_ballot(
     from: usize,
 )
     requires { ⌜ Ready g × (0 < n) × (n ≤ 8) × (4 + 40 * (n * n) + 32 * n ≤ length (now out)) ⌝ }
-    requires { ⌜ Spread (g .group .q) (now draws) from (4 * (n * n) + 2 * n) ⌝ }
+    requires { ⌜ DrawsBelow (g .group .q) (now draws) from (4 * (n * n) + 2 * n) ⌝ }
     ensures { λ _. ⌜ now (out .exit) ≡ written (ballotBytes sha256 (now (label .entry)) (parametersOf (g .group)) n number (λ k. getD list k 0) (now (draws .entry)) from) (now (out .entry)) ⌝ }
 {
     let group = g.group;

@@ -7,12 +7,12 @@ use statements::claims::Claim;
 ghost use mathlib.Core.Path.{_≡_};
 ghost use Prim.Native.Nat.{_+_, _*_, _≤_, _<_};
 ghost use lib.ListN.{length};
-ghost use Rattle.numbers.specs.Below.{blocks};
+ghost use Rattle.numbers.specs.Below.{concatBelow};
 ghost use Rattle.group.specs.Elements.{parametersOf};
 ghost use Rattle.rules.specs.Claims.{Matrix};
 ghost use Rattle.statements.specs.Values.{Ready};
 ghost use Rattle.output.specs.Written.{written};
-ghost use Rattle.proving.specs.Plans.{Spread};
+ghost use Rattle.proving.specs.Plans.{DrawsBelow};
 ghost use Rattle.ballots.specs.Parts.{lineOf};
 
 // A proof of one statement alone is made from its witness, whatever the statement is.
@@ -27,7 +27,7 @@ fn write_line(
     t: usize,
 )
     requires { ⌜ Ready g × (0 < n) × (n ≤ 8) × (t < n + n) × (16 ≤ length (now out)) ⌝ }
-    requires { ⌜ Spread (g .group .q) (now draws) from (4 * (n * n) + 2 * n) ⌝ }
+    requires { ⌜ DrawsBelow (g .group .q) (now draws) from (4 * (n * n) + 2 * n) ⌝ }
     ensures { λ _. ⌜ ((M : Matrix) → now (out .exit) ≡ written (lineOf (now (label .entry)) (parametersOf (g .group)) n M (now (draws .entry)) from t) (now (out .entry))) ⌝ }
 {
     let line = claims::line_of(n, t);
@@ -56,8 +56,8 @@ pub fn write_lines(
     from: usize,
 )
     requires { ⌜ Ready g × (0 < n) × (n ≤ 8) × (32 * n ≤ length (now out)) ⌝ }
-    requires { ⌜ Spread (g .group .q) (now draws) from (4 * (n * n) + 2 * n) ⌝ }
-    ensures { λ _. ⌜ ((M : Matrix) → now (out .exit) ≡ written (blocks (n + n) (lineOf (now (label .entry)) (parametersOf (g .group)) n M (now (draws .entry)) from)) (now (out .entry))) ⌝ }
+    requires { ⌜ DrawsBelow (g .group .q) (now draws) from (4 * (n * n) + 2 * n) ⌝ }
+    ensures { λ _. ⌜ ((M : Matrix) → now (out .exit) ≡ written (concatBelow (n + n) (lineOf (now (label .entry)) (parametersOf (g .group)) n M (now (draws .entry)) from)) (now (out .entry))) ⌝ }
 {
     let count = n + n;
     for t in 0..count {

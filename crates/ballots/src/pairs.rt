@@ -33,8 +33,8 @@ fn put_pair(out: &mut [u8], g: Group, x: Exponent, v: Exponent)
     let g1 = g.g1;
     let b = group::mul(p, group::pow(p, g0, x), group::pow(p, g1, v));
     let y = group::pow(p, g1, x);
-    output::put_word(out, b.0);
-    output::put_word(&mut out[4..], y.0);
+    output::put_number4(out, b.0);
+    output::put_number4(&mut out[4..], y.0);
 }
 
 pub fn write_pairs(
@@ -64,6 +64,6 @@ pub fn put_front(out: &mut [u8], mark: [u8; 2], number: u32, pairs: &[u8])
     ensures { λ _. ⌜ now (out .exit) ≡ written (mark ++ bytes2 number ++ now (pairs .entry)) (now (out .entry)) ⌝ }
 {
     output::put_two(out, mark);
-    output::put_half(&mut out[2..], number);
+    output::put_number2(&mut out[2..], number);
     output::put_bytes(&mut out[4..], pairs);
 }

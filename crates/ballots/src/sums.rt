@@ -4,7 +4,7 @@ use statements::claims;
 ghost use mathlib.Core.Path.{_≡_};
 ghost use Prim.Native.Nat.{_+_, _-_, _*_, _%_, _^_, _≤_, _<_};
 ghost use lib.ListN.{length};
-ghost use Rattle.proving.specs.Plans.{Spread};
+ghost use Rattle.proving.specs.Plans.{DrawsBelow};
 ghost use Rattle.ballots.specs.Parts.{sumBut, Witnessed};
 
 // The sum of draws at a stride but for one, modulo q.
@@ -41,7 +41,7 @@ pub fn witnesses(
     new: usize,
 ) -> [Exponent; 64]
     requires { ⌜ (0 < n) × (n ≤ 8) × (rows < 8) × (a < n) × (l ≤ rows) ⌝ }
-    requires { ⌜ Spread q (now draws) old ((rows + 1) * n) × Spread q (now draws) new (rows * n) ⌝ }
+    requires { ⌜ DrawsBelow q (now draws) old ((rows + 1) * n) × DrawsBelow q (now draws) new (rows * n) ⌝ }
     ensures { λ r. ⌜ Witnessed q n (now (draws .entry)) old new a l (2 + rows * n) r ⌝ }
 {
     let count = rows * n;

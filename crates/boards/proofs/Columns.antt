@@ -1,4 +1,4 @@
--- A sheet column by column. Assumes nothing.
+-- A sheet column by column.
 use Prim.Native.Nat.{ℕ, _+_, _*_, _-_, _%_, _<_}
 use mathlib.Core.Path.{_≡_, refl, ap, _∙_}
 use mathlib.Core.List.{List, [], _∷_, _++_, append-assoc}
@@ -6,7 +6,7 @@ use native.Mathlib.Omega.{arith}
 use borrow.Author.Tests.{ne-eqb}
 use borrow.Rule.Slice.PartMut.{midOf, putMid}
 use lib.ListN.{length, getD, length-append}
-use Rattle.numbers.specs.Below.{blocks, sumBelow}
+use Rattle.numbers.specs.Below.{concatBelow, sumBelow}
 use Rattle.numbers.proofs.Blocks.{blocks-same, length-blocks}
 use Rattle.numbers.proofs.Sums.{sum-same}
 use Rattle.rules.specs.Bytes.{bytes2, bytes4}
@@ -23,10 +23,10 @@ tally-is draws from stride k = sum-same k _ _ (λ i h. rw (ne-eqb i k (λ e. ome
 module _ (q n K : ℕ) (draws : List ℕ) (from each m out : ℕ) (counts : List ℕ) where
   -- a sheet up to its i-th column
   abbrev pub sheetTo : (i : ℕ) → List ℕ
-  sheetTo i = RT ++ ((m + 1) ∷ out ∷ []) ++ blocks i (sheetColumn q n K draws from each counts)
+  sheetTo i = RT ++ ((m + 1) ∷ out ∷ []) ++ concatBelow i (sheetColumn q n K draws from each counts)
 
   pub sheet-none : (o : List ℕ) → written (RT ++ ((m + 1) ∷ out ∷ [])) o ≡ written (sheetTo 0) o
-  unfolding blocks
+  unfolding concatBelow
   sheet-none o = refl
 
   -- the sum of a column's secrets, as the code goes through them

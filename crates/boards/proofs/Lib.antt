@@ -1,4 +1,5 @@
+-- Laws of the rounds of a board written.
 pub mod Walk
 pub mod Columns
-pub mod Turns
-pub mod Stages
+pub mod Plans
+pub mod RoundPlans

@@ -8,15 +8,15 @@ use native.Mathlib.Nat.{not-suc-le-zero, le-of-suc-le-suc}
 use native.Mathlib.Omega.{arith}
 use lib.ListN.{length, getD, take, replicate, length-append}
 use lib.Seq.{take-at, getD-at}
-use Rattle.numbers.specs.Below.{blocks}
+use Rattle.numbers.specs.Below.{concatBelow}
 use Rattle.numbers.proofs.Tests.{by-cases}
 use Rattle.group.specs.Elements.{Parameters}
-use Rattle.rules.specs.Answers.{padded}
+use Rattle.rules.specs.Answers.{withZeros}
 use Rattle.rules.specs.Count.{Standing, Result, start, next, leaves, closes, isRanking, countsOf, countFrom, plainCount}
-use Rattle.jobs.specs.Job.{Job, rankingOf, plainResult, standing, placeOf}
+use Rattle.jobs.specs.Job.{Job, rankingOf, plainResult, remaining, rowOf}
 use Rattle.jobs.specs.Board.{recordBytes, roundsFrom, jobSheet}
 use Rattle.rules.proofs.Leaving.{In, rounds-over}
-use Rattle.boards.specs.Parts.{recordsOf, roundOf}
+use Rattle.boards.specs.Parts.{recordsOf, roundBytes}
 use Rattle.jobs.proofs.Counting.{rankings, countsIn, closesIn, leavesIn, Reached, first-reached, next-reached, plain-closed, leaves-still-in, place-in}
 
 -- the order of going out only grows
@@ -45,7 +45,7 @@ module _ (hash : List ℕ → List ℕ) (job : Job) (g : Parameters) (ranked : (
   R = plainResult job
 
   abbrev o : List ℕ
-  o = padded (R .order)
+  o = withZeros (R .order)
 
   -- what the round before left
   abbrev Prior : (gone before : List ℕ) (a m : ℕ) → Type 0
@@ -59,12 +59,12 @@ module _ (hash : List ℕ → List ℕ) (job : Job) (g : Parameters) (ranked : (
     pub a : ℕ
     pub count : Reached job (suc (job .n - suc j)) st j
     pub prior : Prior (st .gone) before a j
-    pub board : roundsFrom hash job g (job .n) start 0 [] 0 ≡ blocks j (roundOf hash job g o) ++ roundsFrom hash job g (suc (job .n - suc j)) st j before a
+    pub board : roundsFrom hash job g (job .n) start 0 [] 0 ≡ concatBelow j (roundBytes hash job g o) ++ roundsFrom hash job g (suc (job .n - suc j)) st j before a
 
   module _ (j : ℕ) (r : At j) where
     -- those gone out are the first of the order
     split : (rest : List ℕ) × (o ≡ r .st .gone ++ rest)
-    unfolding padded
+    unfolding withZeros
     split =
         let w = prefix (job .n) (rankings job) (suc (job .n - suc j)) (r .st) in
         let e : R .order ≡ r .st .gone ++ w .0 = sym (ap (λ (x : Result). x .order) (r .count .plain)) ∙ w .1 in
@@ -80,12 +80,12 @@ module _ (hash : List ℕ → List ℕ) (job : Job) (g : Parameters) (ranked : (
     leaving = leavesIn job (r .st)
 
     -- the records of the round
-    records : blocks (job .K) (recordBytes hash job g (r .before) (r .a) j) ≡ recordsOf hash job g o j
+    records : concatBelow (job .K) (recordBytes hash job g (r .before) (r .a) j) ≡ recordsOf hash job g o j
     unfolding recordsOf
     records = go j (r .count .out) (r .prior) gone-first
       where
         go : (m : ℕ) → length (r .st .gone) ≡ m → Prior (r .st .gone) (r .before) (r .a) m → take m o ≡ r .st .gone →
-            blocks (job .K) (recordBytes hash job g (r .before) (r .a) m) ≡ recordsOf hash job g o m
+            concatBelow (job .K) (recordBytes hash job g (r .before) (r .a) m) ≡ recordsOf hash job g o m
         go zero e p t = rw (p .0, p .1)
         go (suc m) e p t =
             let n : length (r .before) ≡ m = omega (arith, ap length p, length-append (r .before) (r .a ∷ [])) in
@@ -96,7 +96,7 @@ module _ (hash : List ℕ → List ℕ) (job : Job) (g : Parameters) (ranked : (
 
     -- what the sheet names as out
     out-closing : closing ≡ true → getD o j 0 ≡ 0
-    unfolding padded
+    unfolding withZeros
     out-closing e = rw (plain-closed job ranked (r .count) e) (zeros-past (r .st .gone) (8 - length (r .st .gone)) j (r .count .out))
 
     module _ (e : closing ≡ false) where
@@ -104,7 +104,7 @@ module _ (hash : List ℕ → List ℕ) (job : Job) (g : Parameters) (ranked : (
       next-count = next-reached job ranked (r .count) e
 
       out-going : (getD o j 0 ≡ leaving) × (take (suc j) o ≡ r .st .gone ++ (leaving ∷ []))
-      unfolding padded
+      unfolding withZeros
       out-going =
           let w = prefix (job .n) (rankings job) (job .n - suc j) (next (job .n) (r .st) (countsIn job (r .st))) in
           let eo : R .order ≡ (r .st .gone ++ (leaving ∷ [])) ++ w .0 = sym (ap (λ (x : Result). x .order) (next-count .plain)) ∙ w .1 in
@@ -115,12 +115,12 @@ module _ (hash : List ℕ → List ℕ) (job : Job) (g : Parameters) (ranked : (
 
       -- the round whole, and what comes after it
       after : roundsFrom hash job g (suc (job .n - suc j)) (r .st) j (r .before) (r .a) ≡
-          roundOf hash job g o j ++ roundsFrom hash job g (job .n - suc j) (next (job .n) (r .st) (countsIn job (r .st))) (suc j) (r .st .gone) leaving
-      unfolding roundsFrom roundOf
+          roundBytes hash job g o j ++ roundsFrom hash job g (job .n - suc j) (next (job .n) (r .st) (countsIn job (r .st))) (suc j) (r .st .gone) leaving
+      unfolding roundsFrom roundBytes
       after = rw (e, records, gone-first, out-going .0) (sym (append-assoc (recordsOf hash job g o j) (jobSheet job g j leaving (countsIn job (r .st))) _))
 
       onward : At (suc j)
-      unfolding blocks
+      unfolding concatBelow
       onward =
           let fuel : job .n - suc j ≡ suc (job .n - suc (suc j)) = omega (arith, next-count .early) in
           record {
@@ -132,8 +132,8 @@ module _ (hash : List ℕ → List ℕ) (job : Job) (g : Parameters) (ranked : (
             board = r .board ∙ rw (after, fuel, append-assoc);
           }
 
-    last : closing ≡ true → roundsFrom hash job g (suc (job .n - suc j)) (r .st) j (r .before) (r .a) ≡ roundOf hash job g o j
-    unfolding roundsFrom roundOf
+    last : closing ≡ true → roundsFrom hash job g (suc (job .n - suc j)) (r .st) j (r .before) (r .a) ≡ roundBytes hash job g o j
+    unfolding roundsFrom roundBytes
     last e = rw (e, records, gone-first, out-closing e)
 
     is-last : j + 1 ≡ R .rounds → closing ≡ true
@@ -152,20 +152,20 @@ module _ (hash : List ℕ → List ℕ) (job : Job) (g : Parameters) (ranked : (
     some = rounds-over (job .n) (rankings job) (job .n) start
 
     walk : (j : ℕ) → j < R .rounds → At j
-    unfolding blocks
+    unfolding concatBelow
     walk zero h =
         let fuel : job .n ≡ suc (job .n - 1) = omega arith in
         record { st = start; before = []; a = 0; count = subst (λ (n : ℕ). Reached job n start 0) fuel (first-reached job ranked many); prior = (refl, refl); board = ap (λ (n : ℕ). roundsFrom hash job g n start 0 [] 0) fuel }
     walk (suc j) h = let r = walk j (omega arith) in onward j r (not-last j r (omega arith))
 
     -- the rounds of the board, one after another
-    pub rounds-are : roundsFrom hash job g (job .n) start 0 [] 0 ≡ blocks (R .rounds) (roundOf hash job g o)
-    unfolding blocks
+    pub rounds-are : roundsFrom hash job g (job .n) start 0 [] 0 ≡ concatBelow (R .rounds) (roundBytes hash job g o)
+    unfolding concatBelow
     rounds-are =
         let j = R .rounds - 1 in
         let r = walk j (omega (arith, some)) in
         let n : R .rounds ≡ suc j = omega (arith, some) in
-        r .board ∙ ap (λ (x : List ℕ). blocks j (roundOf hash job g o) ++ x) (last j r (is-last j r (omega (arith, some)))) ∙ ap (λ (k : ℕ). blocks k (roundOf hash job g o)) (sym n)
+        r .board ∙ ap (λ (x : List ℕ). concatBelow j (roundBytes hash job g o) ++ x) (last j r (is-last j r (omega (arith, some)))) ∙ ap (λ (k : ℕ). concatBelow k (roundBytes hash job g o)) (sym n)
 
     pub few-rounds : R .rounds + 1 ≤ job .n
     few-rounds = let r = walk (R .rounds - 1) (omega (arith, some)) in omega (arith, r .count .early, some)
@@ -178,8 +178,8 @@ module _ (hash : List ℕ → List ℕ) (job : Job) (g : Parameters) (ranked : (
         (w .1 ∙ rw (w .0, gone-first j r), rw (w .0, gone-first j r) (leaves-still-in job ranked (r .count)))
 
     -- so many are left on each ranking
-    pub left : (j : ℕ) → j < R .rounds → (k : ℕ) → k < job .K → length (standing (take j o) (rankingOf job k)) ≡ job .n - j
+    pub left : (j : ℕ) → j < R .rounds → (k : ℕ) → k < job .K → length (remaining (take j o) (rankingOf job k)) ≡ job .n - j
     left j h k l = let r = walk j h in rw (gone-first j r) (r .count .short k l)
 
-    pub struck-below : (j : ℕ) → suc j < R .rounds → (k : ℕ) → k < job .K → placeOf (getD o j 0) (standing (take j o) (rankingOf job k)) < job .n - j
+    pub struck-below : (j : ℕ) → suc j < R .rounds → (k : ℕ) → k < job .K → rowOf (getD o j 0) (remaining (take j o) (rankingOf job k)) < job .n - j
     struck-below j h k l = rw (left j (omega arith) k l) at (place-in (job .n) (take j o) (rankingOf job k) (getD o j 0) (ranked k l) (goes-out j h .1))

@@ -3,18 +3,18 @@ use Prim.Native.Nat.{ℕ, zero, suc, _+_, _*_, _-_, _≤_, _<_}
 use mathlib.Core.Path.{_≡_}
 use mathlib.Core.List.{List, [], _∷_, _++_}
 use lib.ListN.{length, getD, take}
-use Rattle.numbers.specs.Below.{blocks}
+use Rattle.numbers.specs.Below.{concatBelow}
 use Rattle.group.specs.Elements.{Parameters}
 use Rattle.rules.specs.Count.{countsOf, table}
 use Rattle.jobs.specs.Job as J
-use Rattle.jobs.specs.Job.{rankingOf, roundDraws, standing, placeOf}
+use Rattle.jobs.specs.Job.{rankingOf, roundDraws, remaining, rowOf}
 use Rattle.jobs.specs.Board.{recordBytes, jobSheet}
-use Rattle.proving.specs.Plans.{Spread}
+use Rattle.proving.specs.Plans.{DrawsBelow}
 use Rattle.count.specs.State.{countsOn, listOf, Listed}
 use Rattle.count.specs.declared.Sheet.{Sheet}
 use Rattle.count.specs.declared.Count.{Count}
 use Rattle.boards.specs.declared.Size.{Size}
-use Rattle.boards.specs.declared.records.Turn.{Turn}
+use Rattle.boards.specs.declared.records.RoundPlan.{RoundPlan}
 
 -- the job of the rules that a board's size and group tell
 abbrev pub boardJob : Size → Parameters → (label rankings draws : List ℕ) → J.Job
@@ -22,29 +22,29 @@ boardJob size g label rankings draws =
     record { n = size .n; K = size .k; p = g .p; q = g .q; g0 = g .g0; counter = size .counter; label = label; rankings = rankings; draws = draws }
 
 -- what round j left to the next
-pub record Later (job : J.Job) (t : Turn) (j : ℕ) : Type 0 where
+pub record Later (job : J.Job) (t : RoundPlan) (j : ℕ) : Type 0 where
   pub old : t .old ≡ roundDraws (job .n) (job .K) j
   pub struck : listOf (t .gone) ≡ listOf (t .before) ++ (t .a ∷ [])
   pub low : 1 ≤ t .a
   pub high : t .a ≤ job .n
-  pub left : (k : ℕ) → k < job .K → length (standing (listOf (t .before)) (rankingOf job k)) ≡ job .n - j
-  pub place : (k : ℕ) → k < job .K → placeOf (t .a) (standing (listOf (t .before)) (rankingOf job k)) < job .n - j
+  pub left : (k : ℕ) → k < job .K → length (remaining (listOf (t .before)) (rankingOf job k)) ≡ job .n - j
+  pub place : (k : ℕ) → k < job .K → rowOf (t .a) (remaining (listOf (t .before)) (rankingOf job k)) < job .n - j
 
 -- what the records of a round need
-pub record Turned (job : J.Job) (t : Turn) : Type 0 where
+pub record RoundReady (job : J.Job) (t : RoundPlan) : Type 0 where
   pub n-high : job .n ≤ 8
   pub K-high : job .K ≤ 1000
   pub listed : length (job .rankings) ≡ job .K * job .n
   pub early : t .m + 2 ≤ job .n
   pub before-listed : Listed (t .before)
   pub gone-listed : Listed (t .gone)
-  pub drawn : Spread (job .q) (job .draws) 0 (roundDraws (job .n) (job .K) (suc (t .m)))
+  pub drawn : DrawsBelow (job .q) (job .draws) 0 (roundDraws (job .n) (job .K) (suc (t .m)))
   pub new : t .new ≡ roundDraws (job .n) (job .K) (t .m)
   pub first : t .m ≡ 0 → listOf (t .gone) ≡ []
   pub later : (j : ℕ) → t .m ≡ suc j → Later job t j
 
 -- round m of a board whose processes go out in an order
-pub record Told (n K : ℕ) (order : List ℕ) (m : ℕ) (t : Turn) : Type 0 where
+pub record RoundPlanned (n K : ℕ) (order : List ℕ) (m : ℕ) (t : RoundPlan) : Type 0 where
   pub round : t .m ≡ m
   pub before-listed : Listed (t .before)
   pub gone-listed : Listed (t .gone)
@@ -54,20 +54,20 @@ pub record Told (n K : ℕ) (order : List ℕ) (m : ℕ) (t : Turn) : Type 0 whe
   pub later : (j : ℕ) → m ≡ suc j → (listOf (t .before) ≡ take j order) × (t .a ≡ getD order j 0) × (t .old ≡ roundDraws n K j)
 
 -- what a board needs whose processes go out in an order: the draws are there, each process that goes out was still in
-pub record Able (job : J.Job) (order : List ℕ) (rounds : ℕ) : Type 0 where
+pub record Writable (job : J.Job) (order : List ℕ) (rounds : ℕ) : Type 0 where
   pub n-low : 2 ≤ job .n
   pub n-high : job .n ≤ 8
   pub K-low : 1 ≤ job .K
   pub K-high : job .K ≤ 1000
   pub listed : length (job .rankings) ≡ job .K * job .n
   pub few : rounds + 1 ≤ job .n
-  pub drawn : Spread (job .q) (job .draws) 0 (roundDraws (job .n) (job .K) rounds)
+  pub drawn : DrawsBelow (job .q) (job .draws) 0 (roundDraws (job .n) (job .K) rounds)
   pub low : roundDraws (job .n) (job .K) rounds ≤ 10000000
   pub struck : (j : ℕ) → suc j < rounds → take (suc j) order ≡ take j order ++ (getD order j 0 ∷ [])
   pub above : (j : ℕ) → suc j < rounds → 1 ≤ getD order j 0
   pub below : (j : ℕ) → suc j < rounds → getD order j 0 ≤ job .n
-  pub left : (j k : ℕ) → j < rounds → k < job .K → length (standing (take j order) (rankingOf job k)) ≡ job .n - j
-  pub place : (j k : ℕ) → suc j < rounds → k < job .K → placeOf (getD order j 0) (standing (take j order) (rankingOf job k)) < job .n - j
+  pub left : (j k : ℕ) → j < rounds → k < job .K → length (remaining (take j order) (rankingOf job k)) ≡ job .n - j
+  pub place : (j k : ℕ) → suc j < rounds → k < job .K → rowOf (getD order j 0) (remaining (take j order) (rankingOf job k)) < job .n - j
 
 -- the sheets of a count that has ended hold the counts of its rounds
 abbrev pub Sheeted : J.Job → Count → Type 0
@@ -78,9 +78,9 @@ Sheeted job c =
 module _ (hash : List ℕ → List ℕ) (job : J.Job) (g : Parameters) (order : List ℕ) where
   -- the ballots or shifts of round m: before the round before it the first m - 1 had gone out
   unfoldable pub recordsOf : (m : ℕ) → List ℕ
-  recordsOf zero = blocks (job .K) (recordBytes hash job g [] 0 0)
-  recordsOf (suc m) = blocks (job .K) (recordBytes hash job g (take m order) (getD order m 0) (suc m))
+  recordsOf zero = concatBelow (job .K) (recordBytes hash job g [] 0 0)
+  recordsOf (suc m) = concatBelow (job .K) (recordBytes hash job g (take m order) (getD order m 0) (suc m))
 
   -- and its sheet; past the order's end, on the closing sheet, out is 0
-  unfoldable pub roundOf : (m : ℕ) → List ℕ
-  roundOf m = recordsOf m ++ jobSheet job g m (getD order m 0) (countsOf (job .n) (table (job .K) (rankingOf job)) (take m order))
+  unfoldable pub roundBytes : (m : ℕ) → List ℕ
+  roundBytes m = recordsOf m ++ jobSheet job g m (getD order m 0) (countsOf (job .n) (table (job .K) (rankingOf job)) (take m order))

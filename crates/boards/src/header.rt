@@ -17,11 +17,11 @@ fn put_group(out: &mut [u8], g: Group, counter: u8)
     requires { ⌜ 17 ≤ length (now out) ⌝ }
     ensures { λ _. ⌜ now (out .exit) ≡ written (bytes4 (g .p) ++ bytes4 (g .q) ++ bytes4 (g .g0 .0) ++ (counter ∷ []) ++ bytes4 (g .g1 .0)) (now (out .entry)) ⌝ }
 {
-    output::put_word(out, g.p);
-    output::put_word(&mut out[4..], g.q);
-    output::put_word(&mut out[8..], g.g0.0);
+    output::put_number4(out, g.p);
+    output::put_number4(&mut out[4..], g.q);
+    output::put_number4(&mut out[8..], g.g0.0);
     output::put_byte(&mut out[12..], counter);
-    output::put_word(&mut out[13..], g.g1.0);
+    output::put_number4(&mut out[13..], g.g1.0);
 }
 
 pub fn write_header(out: &mut [u8], size: Size, g: Group, label: &[u8])
@@ -29,10 +29,10 @@ pub fn write_header(out: &mut [u8], size: Size, g: Group, label: &[u8])
     ensures { λ _. ⌜ now (out .exit) ≡ written (headerBytes sha256 (boardJob size (parametersOf g) (now (label .entry)) [] []) (parametersOf g)) (now (out .entry)) ⌝ }
 {
     let n = numbers::low(size.n);
-    let k = numbers::half(size.k);
+    let k = numbers::low16(size.k);
     output::put_two(out, layout::HD);
     output::put_byte(&mut out[2..], n);
-    output::put_half(&mut out[3..], k);
+    output::put_number2(&mut out[3..], k);
     put_group(&mut out[5..], g, size.counter);
     output::put_bytes(&mut out[22..], label);
 }

@@ -10,7 +10,7 @@ use statements::Setup;
 ghost use mathlib.Core.Path.{_≡_};
 ghost use Prim.Native.Nat.{_+_, _*_, _≤_, _<_};
 ghost use lib.ListN.{length};
-ghost use Rattle.numbers.specs.Below.{blocks};
+ghost use Rattle.numbers.specs.Below.{concatBelow};
 ghost use Rattle.sha256.specs.Message.{sha256};
 ghost use Rattle.group.specs.Elements.{parametersOf};
 ghost use Rattle.rules.specs.Records.{recordLength};
@@ -18,10 +18,10 @@ ghost use Rattle.jobs.specs.Board.{recordBytes};
 ghost use Rattle.output.specs.Written.{written};
 ghost use Rattle.statements.specs.Values.{Ready};
 ghost use Rattle.count.specs.State.{listOf};
-ghost use Rattle.boards.specs.Parts.{boardJob, Turned};
+ghost use Rattle.boards.specs.Parts.{boardJob, RoundReady};
 
 // A round, from 0: those gone out before the round before it and before it, the last of them, and where the draws of the two rounds start.
-pub struct Turn {
+pub struct RoundPlan {
     pub m: usize,
     pub before: Gone,
     pub gone: Gone,
@@ -38,18 +38,18 @@ fn write_first(
     size: Size,
     rankings: &[u8],
     draws: &[u32],
-    turn: Turn,
+    plan: RoundPlan,
     b: usize,
 )
-    requires { ⌜ Ready g × Turned (boardJob size (parametersOf (g .group)) (now label) (now rankings) (now draws)) turn × (turn .m ≡ 0) × (b < size .k) × (recordLength (size .n) (turn .m) ≤ length (now out)) ⌝ }
-    ensures { λ _. ⌜ now (out .exit) ≡ written (recordBytes sha256 (boardJob size (parametersOf (g .group)) (now (label .entry)) (now (rankings .entry)) (now (draws .entry))) (parametersOf (g .group)) (listOf (turn .before)) (turn .a) (turn .m) b) (now (out .entry)) ⌝ }
+    requires { ⌜ Ready g × RoundReady (boardJob size (parametersOf (g .group)) (now label) (now rankings) (now draws)) plan × (plan .m ≡ 0) × (b < size .k) × (recordLength (size .n) (plan .m) ≤ length (now out)) ⌝ }
+    ensures { λ _. ⌜ now (out .exit) ≡ written (recordBytes sha256 (boardJob size (parametersOf (g .group)) (now (label .entry)) (now (rankings .entry)) (now (draws .entry))) (parametersOf (g .group)) (listOf (plan .before)) (plan .a) (plan .m) b) (now (out .entry)) ⌝ }
 {
     let n = size.n;
     let first = b * n;
-    let gone = turn.gone;
+    let gone = plan.gone;
     let list = rankings::still_in(rankings, first, n, gone);
-    let here = turn.new + b * rounds::record_draws(n, 0);
-    ballot::write_ballot(out, label, g, n, numbers::half(b + 1), list, draws, here);
+    let here = plan.new + b * rounds::record_draws(n, 0);
+    ballot::write_ballot(out, label, g, n, numbers::low16(b + 1), list, draws, here);
 }
 
 // Ballot b in a later round.
@@ -60,29 +60,29 @@ fn write_later(
     size: Size,
     rankings: &[u8],
     draws: &[u32],
-    turn: Turn,
+    plan: RoundPlan,
     b: usize,
 )
-    requires { ⌜ Ready g × Turned (boardJob size (parametersOf (g .group)) (now label) (now rankings) (now draws)) turn × (0 < turn .m) × (b < size .k) × (recordLength (size .n) (turn .m) ≤ length (now out)) ⌝ }
-    ensures { λ _. ⌜ now (out .exit) ≡ written (recordBytes sha256 (boardJob size (parametersOf (g .group)) (now (label .entry)) (now (rankings .entry)) (now (draws .entry))) (parametersOf (g .group)) (listOf (turn .before)) (turn .a) (turn .m) b) (now (out .entry)) ⌝ }
+    requires { ⌜ Ready g × RoundReady (boardJob size (parametersOf (g .group)) (now label) (now rankings) (now draws)) plan × (0 < plan .m) × (b < size .k) × (recordLength (size .n) (plan .m) ≤ length (now out)) ⌝ }
+    ensures { λ _. ⌜ now (out .exit) ≡ written (recordBytes sha256 (boardJob size (parametersOf (g .group)) (now (label .entry)) (now (rankings .entry)) (now (draws .entry))) (parametersOf (g .group)) (listOf (plan .before)) (plan .a) (plan .m) b) (now (out .entry)) ⌝ }
 {
     let n = size.n;
-    let m = turn.m;
+    let m = plan.m;
     let first = b * n;
-    let was = turn.before;
-    let gone = turn.gone;
+    let was = plan.before;
+    let gone = plan.gone;
     let before = rankings::still_in(rankings, first, n, was);
     let after = rankings::still_in(rankings, first, n, gone);
     let s = Shift {
         n,
         rows: n - m,
-        number: numbers::half(b + 1),
+        number: numbers::low16(b + 1),
         before,
         after,
-        struck: rankings::place_of(before, n - m + 1, turn.a),
-        column: numbers::wide(turn.a) - 1,
-        old: turn.old + b * rounds::record_draws(n, m - 1),
-        new: turn.new + b * rounds::record_draws(n, m),
+        struck: rankings::row_of(before, n - m + 1, plan.a),
+        column: numbers::wide(plan.a) - 1,
+        old: plan.old + b * rounds::record_draws(n, m - 1),
+        new: plan.new + b * rounds::record_draws(n, m),
     };
     shift::write_shift(out, label, g, s, draws);
 }
@@ -94,16 +94,16 @@ fn write_record(
     size: Size,
     rankings: &[u8],
     draws: &[u32],
-    turn: Turn,
+    plan: RoundPlan,
     b: usize,
 )
-    requires { ⌜ Ready g × Turned (boardJob size (parametersOf (g .group)) (now label) (now rankings) (now draws)) turn × (b < size .k) × (recordLength (size .n) (turn .m) ≤ length (now out)) ⌝ }
-    ensures { λ _. ⌜ now (out .exit) ≡ written (recordBytes sha256 (boardJob size (parametersOf (g .group)) (now (label .entry)) (now (rankings .entry)) (now (draws .entry))) (parametersOf (g .group)) (listOf (turn .before)) (turn .a) (turn .m) b) (now (out .entry)) ⌝ }
+    requires { ⌜ Ready g × RoundReady (boardJob size (parametersOf (g .group)) (now label) (now rankings) (now draws)) plan × (b < size .k) × (recordLength (size .n) (plan .m) ≤ length (now out)) ⌝ }
+    ensures { λ _. ⌜ now (out .exit) ≡ written (recordBytes sha256 (boardJob size (parametersOf (g .group)) (now (label .entry)) (now (rankings .entry)) (now (draws .entry))) (parametersOf (g .group)) (listOf (plan .before)) (plan .a) (plan .m) b) (now (out .entry)) ⌝ }
 {
-    if turn.m == 0 {
-        write_first(out, label, g, size, rankings, draws, turn, b);
+    if plan.m == 0 {
+        write_first(out, label, g, size, rankings, draws, plan, b);
     } else {
-        write_later(out, label, g, size, rankings, draws, turn, b);
+        write_later(out, label, g, size, rankings, draws, plan, b);
     }
 }
 
@@ -114,15 +114,15 @@ pub fn write_records(
     size: Size,
     rankings: &[u8],
     draws: &[u32],
-    turn: Turn,
+    plan: RoundPlan,
 )
-    requires { ⌜ Ready g × Turned (boardJob size (parametersOf (g .group)) (now label) (now rankings) (now draws)) turn × (size .k * recordLength (size .n) (turn .m) ≤ length (now out)) ⌝ }
-    ensures { λ _. ⌜ now (out .exit) ≡ written (blocks (size .k) (recordBytes sha256 (boardJob size (parametersOf (g .group)) (now (label .entry)) (now (rankings .entry)) (now (draws .entry))) (parametersOf (g .group)) (listOf (turn .before)) (turn .a) (turn .m))) (now (out .entry)) ⌝ }
+    requires { ⌜ Ready g × RoundReady (boardJob size (parametersOf (g .group)) (now label) (now rankings) (now draws)) plan × (size .k * recordLength (size .n) (plan .m) ≤ length (now out)) ⌝ }
+    ensures { λ _. ⌜ now (out .exit) ≡ written (concatBelow (size .k) (recordBytes sha256 (boardJob size (parametersOf (g .group)) (now (label .entry)) (now (rankings .entry)) (now (draws .entry))) (parametersOf (g .group)) (listOf (plan .before)) (plan .a) (plan .m))) (now (out .entry)) ⌝ }
 {
     let k = size.k;
-    let width = layout::record_length(size.n, turn.m);
+    let width = layout::record_length(size.n, plan.m);
     for b in 0..k {
         let at = b * width;
-        write_record(&mut out[at..], label, g, size, rankings, draws, turn, b);
+        write_record(&mut out[at..], label, g, size, rankings, draws, plan, b);
     }
 }

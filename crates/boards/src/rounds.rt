@@ -2,7 +2,7 @@
 use crate::Size;
 use crate::header;
 use crate::records;
-use crate::records::Turn;
+use crate::records::RoundPlan;
 use crate::sheet;
 use count::Count;
 use plain::rankings;
@@ -12,7 +12,7 @@ ghost use mathlib.Core.Path.{_≡_};
 ghost use mathlib.Core.List.{_++_};
 ghost use Prim.Native.Nat.{suc, _+_, _*_, _≤_, _<_};
 ghost use lib.ListN.{length};
-ghost use Rattle.numbers.specs.Below.{blocks};
+ghost use Rattle.numbers.specs.Below.{concatBelow};
 ghost use Rattle.sha256.specs.Message.{sha256};
 ghost use Rattle.group.specs.Elements.{parametersOf};
 ghost use Rattle.rules.specs.Records.{headerLength, recordLength, sheetLength, roundAt};
@@ -20,16 +20,16 @@ ghost use Rattle.jobs.specs.Job.{roundDraws};
 ghost use Rattle.jobs.specs.Board.{headerBytes};
 ghost use Rattle.output.specs.Written.{written};
 ghost use Rattle.statements.specs.Values.{Ready};
-ghost use Rattle.boards.specs.Parts.{boardJob, Told, Able, Sheeted, roundOf};
+ghost use Rattle.boards.specs.Parts.{boardJob, RoundPlanned, Writable, Sheeted, roundBytes};
 
 // Round m of a board whose processes go out in an order; its draws start at a place.
-fn turn_of(size: Size, order: [u8; 8], m: usize, from: usize) -> Turn
+fn plan_of(size: Size, order: [u8; 8], m: usize, from: usize) -> RoundPlan
     requires { ⌜ (size .n ≤ 8) × (m < size .n) × (size .k ≤ 1000) × (from ≡ roundDraws (size .n) (size .k) m) ⌝ }
-    ensures { λ r. ⌜ Told (size .n) (size .k) order m r ⌝ }
+    ensures { λ r. ⌜ RoundPlanned (size .n) (size .k) order m r ⌝ }
 {
     let gone = rankings::first_of(order, m);
     if m == 0 {
-        return Turn {
+        return RoundPlan {
             m,
             before: gone,
             gone,
@@ -40,7 +40,7 @@ fn turn_of(size: Size, order: [u8; 8], m: usize, from: usize) -> Turn
     }
     let last = m - 1;
     let before = rankings::first_of(order, last);
-    Turn {
+    RoundPlan {
         m,
         before,
         gone,
@@ -62,9 +62,9 @@ fn write_round(
     m: usize,
     from: usize,
 )
-    requires { ⌜ Ready g × Able (boardJob size (parametersOf (g .group)) (now label) (now rankings) (now draws)) (count .gone .order) (suc m) × Sheeted (boardJob size (parametersOf (g .group)) (now label) (now rankings) (now draws)) count × (m ≤ count .gone .outs) ⌝ }
+    requires { ⌜ Ready g × Writable (boardJob size (parametersOf (g .group)) (now label) (now rankings) (now draws)) (count .gone .order) (suc m) × Sheeted (boardJob size (parametersOf (g .group)) (now label) (now rankings) (now draws)) count × (m ≤ count .gone .outs) ⌝ }
     requires { ⌜ (from ≡ roundDraws (size .n) (size .k) m) × (size .k * recordLength (size .n) m + sheetLength (size .n) ≤ length (now out)) ⌝ }
-    ensures { λ _. ⌜ now (out .exit) ≡ written (roundOf sha256 (boardJob size (parametersOf (g .group)) (now (label .entry)) (now (rankings .entry)) (now (draws .entry))) (parametersOf (g .group)) (count .gone .order) m) (now (out .entry)) ⌝ }
+    ensures { λ _. ⌜ now (out .exit) ≡ written (roundBytes sha256 (boardJob size (parametersOf (g .group)) (now (label .entry)) (now (rankings .entry)) (now (draws .entry))) (parametersOf (g .group)) (count .gone .order) m) (now (out .entry)) ⌝ }
 {
     let n = size.n;
     let k = size.k;
@@ -72,8 +72,8 @@ fn write_round(
     let order = gone.order;
     let sheets = count.sheets;
     let sheet = sheets[m];
-    let turn = turn_of(size, order, m, from);
-    records::write_records(out, label, g, size, rankings, draws, turn);
+    let plan = plan_of(size, order, m, from);
+    records::write_records(out, label, g, size, rankings, draws, plan);
     let at = k * layout::record_length(n, m);
     let stride = rounds::record_draws(n, m);
     let q = g.group.q;
@@ -100,8 +100,8 @@ fn write_rounds(
     draws: &[u32],
     count: Count,
 )
-    requires { ⌜ Ready g × Able (boardJob size (parametersOf (g .group)) (now label) (now rankings) (now draws)) (count .gone .order) (count .gone .outs + 1) × Sheeted (boardJob size (parametersOf (g .group)) (now label) (now rankings) (now draws)) count × (roundAt (size .n) (size .k) (count .gone .outs + 1) ≤ length (now out) + headerLength) ⌝ }
-    ensures { λ _. ⌜ now (out .exit) ≡ written (blocks (count .gone .outs + 1) (roundOf sha256 (boardJob size (parametersOf (g .group)) (now (label .entry)) (now (rankings .entry)) (now (draws .entry))) (parametersOf (g .group)) (count .gone .order))) (now (out .entry)) ⌝ }
+    requires { ⌜ Ready g × Writable (boardJob size (parametersOf (g .group)) (now label) (now rankings) (now draws)) (count .gone .order) (count .gone .outs + 1) × Sheeted (boardJob size (parametersOf (g .group)) (now label) (now rankings) (now draws)) count × (roundAt (size .n) (size .k) (count .gone .outs + 1) ≤ length (now out) + headerLength) ⌝ }
+    ensures { λ _. ⌜ now (out .exit) ≡ written (concatBelow (count .gone .outs + 1) (roundBytes sha256 (boardJob size (parametersOf (g .group)) (now (label .entry)) (now (rankings .entry)) (now (draws .entry))) (parametersOf (g .group)) (count .gone .order))) (now (out .entry)) ⌝ }
 {
     let n = size.n;
     let k = size.k;
@@ -135,9 +135,9 @@ pub fn write_board(
     draws: &[u32],
     count: Count,
 )
-    requires { ⌜ Ready g × Able (boardJob size (parametersOf (g .group)) (now label) (now rankings) (now draws)) (count .gone .order) (count .gone .outs + 1) × Sheeted (boardJob size (parametersOf (g .group)) (now label) (now rankings) (now draws)) count ⌝ }
+    requires { ⌜ Ready g × Writable (boardJob size (parametersOf (g .group)) (now label) (now rankings) (now draws)) (count .gone .order) (count .gone .outs + 1) × Sheeted (boardJob size (parametersOf (g .group)) (now label) (now rankings) (now draws)) count ⌝ }
     requires { ⌜ (length (now label) ≡ 32) × (headerLength ≤ length (now out)) × (roundAt (size .n) (size .k) (count .gone .outs + 1) ≤ length (now out)) ⌝ }
-    ensures { λ _. ⌜ now (out .exit) ≡ written (headerBytes sha256 (boardJob size (parametersOf (g .group)) (now (label .entry)) (now (rankings .entry)) (now (draws .entry))) (parametersOf (g .group)) ++ blocks (count .gone .outs + 1) (roundOf sha256 (boardJob size (parametersOf (g .group)) (now (label .entry)) (now (rankings .entry)) (now (draws .entry))) (parametersOf (g .group)) (count .gone .order))) (now (out .entry)) ⌝ }
+    ensures { λ _. ⌜ now (out .exit) ≡ written (headerBytes sha256 (boardJob size (parametersOf (g .group)) (now (label .entry)) (now (rankings .entry)) (now (draws .entry))) (parametersOf (g .group)) ++ concatBelow (count .gone .outs + 1) (roundBytes sha256 (boardJob size (parametersOf (g .group)) (now (label .entry)) (now (rankings .entry)) (now (draws .entry))) (parametersOf (g .group)) (count .gone .order))) (now (out .entry)) ⌝ }
 {
     let group = g.group;
     header::write_header(out, size, group, label);

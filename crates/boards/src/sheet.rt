@@ -25,8 +25,8 @@ fn write_tally(
     ensures { λ _. ⌜ now (out .exit) ≡ written (bytes2 votes ++ bytes4 (sumBelow k (λ i. getD (now (draws .entry)) (from + stride * i) 0) % q)) (now (out .entry)) ⌝ }
 {
     let s = sums::sum_of(q, draws, from, stride, k, k);
-    output::put_half(out, votes);
-    output::put_word(&mut out[2..], s.0);
+    output::put_number2(out, votes);
+    output::put_number4(&mut out[2..], s.0);
 }
 
 // That of round m, from 0, whose draws start at a place and whose records need so many each.

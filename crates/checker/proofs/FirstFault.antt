@@ -1,4 +1,4 @@
--- The first ballot whose record has a fault, one ballot after another. Assumes nothing.
+-- The first ballot whose record has a fault, one ballot after another.
 use Prim.Native.Nat.{ℕ, zero, suc, _+_, _≤_, _<_}
 use mathlib.Core.Path.{_≡_, refl}
 use mathlib.Core.List.{List}

@@ -1,4 +1,4 @@
--- What a reading owns, taken apart. Assumes nothing.
+-- What a reading owns, taken apart.
 use mathlib.Core.Path.{_≡_}
 use mathlib.Core.List.{[], _∷_}
 use lib.ListN.{length}

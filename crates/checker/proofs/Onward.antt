@@ -1,4 +1,4 @@
--- From round to round, and from the header to the verdict. Assumes nothing.
+-- From round to round, and from the header to the verdict.
 use Prim.Native.Nat.{ℕ, suc, _+_, _-_, _≤_, _<_}
 use mathlib.Core.Path.{_≡_, sym, ap, _∙_}
 use mathlib.Core.List.{List}
@@ -15,8 +15,8 @@ use Rattle.count.specs.declared.Count.{Count}
 use Rattle.count.specs.State.{standingOf, Kept}
 use Rattle.count.proofs.Picks.{gone-is, listed-many}
 use Rattle.records.specs.declared.Head.{Head}
-use Rattle.records.specs.declared.header.Opened.the-variants.{Board, Refused}
-use Rattle.records.specs.Heads.{headOf, Opening}
+use Rattle.records.specs.declared.header.HeaderRead.the-variants.{Board, Refused}
+use Rattle.records.specs.Heads.{headOf, HeaderReads}
 use Rattle.checker.proofs.FirstFault.{positive}
 
 -- ---- the standing count
@@ -39,10 +39,10 @@ module _ (s : List ℕ) (H : Header) (X : Verdict) (st : Standing) (m a : ℕ) (
   goes-on r st' a' es ea = step ∙ r _ ∙ rw (← es, ← ea, add-one m)
 
 -- ---- the header
-pub board-is : (s : List ℕ) (h : Head) → Opening s (Board h) → checkFrom sha256 s (headOf s h) (h .n) start 0 0 ≡ checkBoard sha256 s
-unfolding Opening checkBoard
+pub board-is : (s : List ℕ) (h : Head) → HeaderReads s (Board h) → checkFrom sha256 s (headOf s h) (h .n) start 0 0 ≡ checkBoard sha256 s
+unfolding HeaderReads checkBoard
 board-is s h o = rw (o .0) (ap (λ (H : Header). checkFrom sha256 s H (H .n) start 0 0) (o .1))
 
-pub refused-is : (s : List ℕ) (w : Refusal) → Opening s (Refused w) → refused (refusalNumber w) 0 ≡ checkBoard sha256 s
-unfolding Opening checkBoard
+pub refused-is : (s : List ℕ) (w : Refusal) → HeaderReads s (Refused w) → refused (refusalNumber w) 0 ≡ checkBoard sha256 s
+unfolding HeaderReads checkBoard
 refused-is s w o = rw (o, ne-eqb (refusalNumber w) 0 (λ z. omega (arith, positive w)))

@@ -1,4 +1,4 @@
--- What a round comes to. Assumes nothing.
+-- What a round comes to.
 use Prim.Native.Nat.{ℕ, _+_, _≤_, _<_}
 use mathlib.Core.Path.{_≡_, refl, sym}
 use mathlib.Core.Bool.{true, false}
@@ -21,7 +21,7 @@ use Rattle.records.specs.declared.sheet.Outcome.{Outcome}
 use Rattle.records.specs.declared.sheet.Outcome.the-variants as O
 use Rattle.records.specs.Heads.{headOf}
 use Rattle.records.specs.Faults.{Stepped}
-use Rattle.checker.specs.declared.turns.Round.the-variants.{Open, Closed, Refused}
+use Rattle.checker.specs.declared.round.RoundOutcome.the-variants.{Open, Closed, Refused}
 use Rattle.checker.specs.Outcomes.{Rounded}
 use Rattle.checker.proofs.FirstFault.{positive, sheet-fits}
 

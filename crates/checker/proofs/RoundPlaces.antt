@@ -1,4 +1,4 @@
--- Where rounds stand, one after another. Assumes nothing.
+-- Where rounds stand, one after another.
 use Prim.Native.Nat.{ℕ, zero, suc, _+_, _*_, _-_, _≤_, _<_}
 use mathlib.Core.Path.{_≡_, refl, _∙_}
 use mathlib.Core.Bool.{false}
@@ -10,12 +10,12 @@ use Rattle.rules.specs.Records.{headerLength, recordAt, roundAt, recordLength, 
 use Rattle.rules.specs.Count.{Standing, closes}
 use Rattle.rules.proofs.Leaving.{not-last}
 use Rattle.records.specs.declared.Head.{Head}
-use Rattle.records.specs.Heads.{Known}
+use Rattle.records.specs.Heads.{HeaderKnown}
 use Rattle.records.proofs.Places.{earlier-fits}
-use Rattle.checker.specs.declared.stages.Stage.{Stage}
-use Rattle.checker.specs.Stages.{firstStage, nextStage, Placed}
+use Rattle.checker.specs.declared.offsets.RoundOffsets.{RoundOffsets}
+use Rattle.checker.specs.Offsets.{firstOffsets, nextOffsets, Placed}
 
-module _ (s : List ℕ) (h : Head) (r : Stage) (p : Placed s h r) where
+module _ (s : List ℕ) (h : Head) (r : RoundOffsets) (p : Placed s h r) where
   -- where the round's sheet starts
   pub sheet-at : r .at + h .k * r .size ≡ recordAt (h .n) (h .k) (r .m) (h .k)
   unfolding recordAt
@@ -42,14 +42,14 @@ module _ (s : List ℕ) (h : Head) (r : Stage) (p : Placed s h r) where
         go zero d = let w = p .first d in rw (w .0, w .1) (omega arith)
         go (suc e) d = omega (arith, earlier-at e d .3)
 
-pub placed-first : (s : List ℕ) (h : Head) → Known s h → Placed s h (firstStage (h .n) headerLength)
+pub placed-first : (s : List ℕ) (h : Head) → HeaderKnown s h → Placed s h (firstOffsets (h .n) headerLength)
 unfolding roundAt recordLength
 placed-first s h p =
     record { here = refl; sized = refl; fits = p .long; round = omega (arith, p .low); first = λ _. (refl, refl); later = λ e z. absurd (omega arith) }
 
-pub placed-next : (s : List ℕ) (h : Head) (r : Stage) → Placed s h r → (st : Standing) (cs : List ℕ) → length (st .sheets) ≡ r .m →
+pub placed-next : (s : List ℕ) (h : Head) (r : RoundOffsets) → Placed s h r → (st : Standing) (cs : List ℕ) → length (st .sheets) ≡ r .m →
     closes (h .n) st cs (h .k) ≡ false → recordAt (h .n) (h .k) (r .m) (h .k) + sheetLength (h .n) ≤ length s →
-    (a : ℕ) → 1 ≤ a → a ≤ h .n → Placed s h (nextStage (h .n) (h .k) a r)
+    (a : ℕ) → 1 ≤ a → a ≤ h .n → Placed s h (nextOffsets (h .n) (h .k) a r)
 unfolding recordAt roundAt recordLength
 placed-next s h r p st cs l c f a la ha =
     let x = not-last (h .n) (r .m) st cs (h .k) l c in

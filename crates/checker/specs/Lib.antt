@@ -1,3 +1,3 @@
 -- Where rounds stand, and what they come to.
-pub mod Stages
+pub mod Offsets
 pub mod Outcomes

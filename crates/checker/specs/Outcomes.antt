@@ -14,10 +14,10 @@ use Rattle.count.specs.declared.Count.{Count}
 use Rattle.count.specs.State.{standingOf, resultOf, Kept}
 use Rattle.records.specs.declared.Head.{Head}
 use Rattle.records.specs.Heads.{headOf}
-use Rattle.checker.specs.declared.turns.Found.{Found}
-use Rattle.checker.specs.declared.turns.Found.the-variants as F
-use Rattle.checker.specs.declared.turns.Round.{Round}
-use Rattle.checker.specs.declared.turns.Round.the-variants.{Open, Closed, Refused}
+use Rattle.checker.specs.declared.round.Found.{Found}
+use Rattle.checker.specs.declared.round.Found.the-variants as F
+use Rattle.checker.specs.declared.round.RoundOutcome.{RoundOutcome}
+use Rattle.checker.specs.declared.round.RoundOutcome.the-variants.{Open, Closed, Refused}
 
 -- the ballots' records: none has a fault, and they fit; or the first that has one, and the fault
 unfoldable pub Searched : (s : List ℕ) → Head → (a m : ℕ) → Found → Type 0
@@ -27,7 +27,7 @@ Searched s h a m (F.Refused w k) =
     (k < h .k) × (faultBelow (h .k) (recordFault sha256 s (headOf s h) a m) ≡ some (k, refusalNumber w))
 
 -- the round: whatever comes after it, who goes out and the next standing count; or its own verdict, and the count ended or as it was
-unfoldable pub Rounded : (s : List ℕ) → Head → (before : Count) (m a : ℕ) → Round → (handed : Count) → Type 0
+unfoldable pub Rounded : (s : List ℕ) → Head → (before : Count) (m a : ℕ) → RoundOutcome → (handed : Count) → Type 0
 Rounded s h before m a (Open out) handed =
     ((after : Verdict) → roundVerdict sha256 s (headOf s h) (standingOf (h .n) before) m a after ≡ after)
     × (closes (h .n) (standingOf (h .n) before) (counts s (headOf s h) m) (h .k) ≡ false)

@@ -1,9 +1,9 @@
 // The checker of a board: the rounds in order, and the verdict.
-use crate::stages::Stage;
-use crate::turns::Round;
+use crate::offsets::RoundOffsets;
+use crate::round::RoundOutcome;
 use count::Count;
 use records::Head;
-use records::header::Opened;
+use records::header::HeaderRead;
 use rules::Answer;
 use rules::Checked;
 use rules::Refusal;
@@ -16,11 +16,11 @@ ghost use Rattle.rules.specs.Count.{start};
 ghost use Rattle.rules.specs.Check.{accepted, refused, checkFrom, checkBoard};
 ghost use Rattle.rules.specs.Answers.{refusalNumber, verdictOf, orderOf};
 ghost use Rattle.count.specs.State.{standingOf, Kept};
-ghost use Rattle.records.specs.Heads.{headOf, Known, Opening};
+ghost use Rattle.records.specs.Heads.{headOf, HeaderKnown, HeaderReads};
 
+mod offsets;
 mod reading;
-mod stages;
-mod turns;
+mod round;
 
 fn refused(why: Refusal, place: usize) -> Checked
     ensures { λ r. ⌜ (verdictOf r ≡ refused (refusalNumber why) place) × (r .order ≡ replicate 8 0) ⌝ }
@@ -51,42 +51,42 @@ fn accepted(count: Count, n: usize, winner: usize) -> Checked
 
 // The rounds from a place on, one after another. Each sheet takes the standing count and hands back the next.
 fn rounds(board: &[u8], at: usize, h: Head) -> Checked
-    requires { ⌜ Known (now board) h × (at ≡ headerLength) ⌝ }
+    requires { ⌜ HeaderKnown (now board) h × (at ≡ headerLength) ⌝ }
     ensures { λ r. ⌜ (verdictOf r ≡ checkFrom sha256 (now (board .entry)) (headOf (now (board .entry)) h) (h .n) start 0 0) × (r .order ≡ orderOf (checkFrom sha256 (now (board .entry)) (headOf (now (board .entry)) h) (h .n) start 0 0)) ⌝ }
 {
     let head = h;
     let n = h.n;
     let k = h.k;
     let mut count = Count::new();
-    let mut stage = Stage::first(n, at);
+    let mut offsets = RoundOffsets::first(n, at);
     loop {
-        let turned = turns::turn(board, head, count, stage);
+        let turned = round::read_round(board, head, count, offsets);
         let round = turned.round;
         match round {
-            Round::Refused(why, place) => {
+            RoundOutcome::Refused(why, place) => {
                 return refused(why, place);
             }
-            Round::Closed(winner) => {
+            RoundOutcome::Closed(winner) => {
                 let ended = turned.count;
                 return accepted(ended, n, winner);
             }
-            Round::Open(out) => {
+            RoundOutcome::Open(out) => {
                 let next = turned.count;
                 count = next;
-                stage = stage.next(n, k, out);
+                offsets = offsets.next(n, k, out);
             }
         }
     }
 }
 
 // The verdict on a board whose HD record was opened, its rounds being read from a place on.
-fn verdict(board: &[u8], at: usize, opened: Opened) -> Checked
-    requires { ⌜ Opening (now board) opened × (at ≡ headerLength) ⌝ }
+fn verdict(board: &[u8], at: usize, read: HeaderRead) -> Checked
+    requires { ⌜ HeaderReads (now board) read × (at ≡ headerLength) ⌝ }
     ensures { λ r. ⌜ (verdictOf r ≡ checkBoard sha256 (now (board .entry))) × (r .order ≡ orderOf (checkBoard sha256 (now (board .entry)))) ⌝ }
 {
-    match opened {
-        Opened::Board(h) => rounds(board, at, h),
-        Opened::Refused(why) => refused(why, 0),
+    match read {
+        HeaderRead::Board(h) => rounds(board, at, h),
+        HeaderRead::Refused(why) => refused(why, 0),
     }
 }
 
@@ -95,6 +95,6 @@ pub fn check(board: &[u8]) -> Checked
     ensures { λ r. ⌜ (verdictOf r ≡ checkBoard sha256 (now (board .entry))) × (r .order ≡ orderOf (checkBoard sha256 (now (board .entry)))) ⌝ }
 {
     let r = reading::start(board);
-    let opened = reading::header_of(r);
-    reading::verdict_of(reading::moved(r, layout::HEADER_LENGTH), opened)
+    let read = reading::header_of(r);
+    reading::verdict_of(reading::moved(r, layout::HEADER_LENGTH), read)
 }

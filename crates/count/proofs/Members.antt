@@ -1,4 +1,4 @@
--- Membership in the front of a list, one place at a time. Assumes nothing.
+-- Membership in the front of a list, one place at a time.
 use Prim.Native.Nat.{ℕ, zero, suc, _+_, _≤_, _<_}
 use mathlib.Core.Path.{_≡_, refl, sym}
 use mathlib.Core.Bool.{true, false, or-true}

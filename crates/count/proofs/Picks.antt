@@ -1,4 +1,4 @@
--- The pick and the majority, one process at a time; the standing count, one sheet at a time. Assumes nothing.
+-- The pick and the majority, one process at a time; the standing count, one sheet at a time.
 use Prim.Native.Nat.{ℕ, suc, _+_, _-_, _≤_, _<_}
 use mathlib.Core.Path.{_≡_, refl, sym, ap, _∙_}
 use mathlib.Core.Bool.{Bool, true, false, cond, _||_}
@@ -10,7 +10,7 @@ use lib.ListN.{length, getD, take, drop, set, replicate, take-append-drop, lengt
 use lib.Seq.{getD-take, length-take-le, take-suc-set, drop-set-lt, drop-drop}
 use Rattle.rules.specs.Count.{Standing, ended, member, lowest, highest, wins, countOf}
 use Rattle.count.specs.State.{preferred, picked, pick, passes, countsOn, listOf, standingOf, resultOf, wentOut, Listed, Kept}
-use Rattle.rules.specs.Answers.{padded}
+use Rattle.rules.specs.Answers.{withZeros}
 use Rattle.count.specs.declared.Gone.{Gone}
 use Rattle.count.specs.declared.Count.{Count}
 use Rattle.count.specs.declared.Ended.{Ended}
@@ -64,8 +64,8 @@ sheets-many n c k = length-map (take (c .gone .outs) (c .sheets)) (countsOn n) �
 pub listed-many : (g : Gone) → Listed g → length (listOf g) ≡ g .outs
 listed-many g l = length-take-le (g .outs) (g .order) (omega (arith, l .few, l .order-long))
 
-pub padded-order : (g : Gone) → Listed g → g .order ≡ padded (listOf g)
-unfolding padded
+pub padded-order : (g : Gone) → Listed g → g .order ≡ withZeros (listOf g)
+unfolding withZeros
 padded-order g l = sym (take-append-drop (g .outs) (g .order)) ∙ rw (l .zeros, listed-many g l)
 
 -- one more gone out, with the sheet of its round

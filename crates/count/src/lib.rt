@@ -62,7 +62,7 @@ fn passes(out: bool, votes: u32, k: u32) -> bool
     if out {
         return false;
     }
-    numbers::long(k) < 2 * numbers::long(votes)
+    numbers::wide64(k) < 2 * numbers::wide64(votes)
 }
 
 impl Gone {

@@ -1,4 +1,4 @@
--- A product modulo p, one factor at a time, with one factor left out. Assumes nothing.
+-- A product modulo p, one factor at a time, with one factor left out.
 use Prim.Native.Nat.{ℕ, _+_, _*_, _%_}
 use mathlib.Core.Path.{_≡_}
 use native.Mathlib.Nat.{mul-one}

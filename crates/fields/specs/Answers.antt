@@ -4,7 +4,7 @@ use mathlib.Core.List.{List}
 use mathlib.Core.Bool.{Bool, true, false}
 use lib.Dec.{leb, ltb}
 use Rattle.group.specs.Elements.{isElement}
-use Rattle.rules.specs.Bytes.{half, word}
+use Rattle.rules.specs.Bytes.{number2, number4}
 use Rattle.fields.specs.declared.ElementField.{ElementField}
 use Rattle.fields.specs.declared.ElementField.the-variants as E
 use Rattle.fields.specs.declared.ExponentField.{ExponentField}
@@ -26,12 +26,12 @@ countIf false x next = C.Refused
 
 -- an element of the group at a place
 abbrev pub elementAt : (s : List ℕ) (at p q : ℕ) → ElementField
-elementAt s at p q = elementIf (isElement p q (word s at)) (word s at) (at + 4)
+elementAt s at p q = elementIf (isElement p q (number4 s at)) (number4 s at) (at + 4)
 
 -- a number below q at a place
 abbrev pub exponentAt : (s : List ℕ) (at q : ℕ) → ExponentField
-exponentAt s at q = exponentIf (ltb (word s at) q) (word s at) (at + 4)
+exponentAt s at q = exponentIf (ltb (number4 s at) q) (number4 s at) (at + 4)
 
 -- a number of 2 bytes at a place, at most so high
 abbrev pub countAt : (s : List ℕ) (at most : ℕ) → CountField
-countAt s at most = countIf (leb (half s at) most) (half s at) (at + 2)
+countAt s at most = countIf (leb (number2 s at) most) (number2 s at) (at + 2)

@@ -5,7 +5,7 @@ ghost use mathlib.Core.Path.{_≡_};
 ghost use Prim.Native.Nat.{ℕ, _+_, _*_, _%_, _≤_, _<_};
 ghost use lib.ListN.{length};
 ghost use Rattle.numbers.specs.Below.{prodBelow};
-ghost use Rattle.rules.specs.Bytes.{half, word, long};
+ghost use Rattle.rules.specs.Bytes.{number2, number4, number8};
 ghost use Rattle.rules.specs.Claims.{besides};
 ghost use Rattle.fields.specs.Answers.{elementAt, exponentAt, countAt};
 
@@ -27,28 +27,28 @@ pub enum CountField {
     Refused,
 }
 
-pub fn half(s: &[u8], at: usize) -> u32
+pub fn number2(s: &[u8], at: usize) -> u32
     requires { ⌜ at + 2 ≤ length (now s) ⌝ }
-    ensures { λ r. ⌜ r ≡ half (now (s .entry)) at ⌝ }
+    ensures { λ r. ⌜ r ≡ number2 (now (s .entry)) at ⌝ }
 {
-    numbers::word(s[at]) * 256 + numbers::word(s[at + 1])
+    numbers::byte32(s[at]) * 256 + numbers::byte32(s[at + 1])
 }
 
-pub fn word(s: &[u8], at: usize) -> u32
+pub fn number4(s: &[u8], at: usize) -> u32
     requires { ⌜ at + 4 ≤ length (now s) ⌝ }
-    ensures { λ r. ⌜ r ≡ word (now (s .entry)) at ⌝ }
+    ensures { λ r. ⌜ r ≡ number4 (now (s .entry)) at ⌝ }
 {
-    numbers::word(s[at]) * 16777216
-        + numbers::word(s[at + 1]) * 65536
-        + numbers::word(s[at + 2]) * 256
-        + numbers::word(s[at + 3])
+    numbers::byte32(s[at]) * 16777216
+        + numbers::byte32(s[at + 1]) * 65536
+        + numbers::byte32(s[at + 2]) * 256
+        + numbers::byte32(s[at + 3])
 }
 
 pub fn element(s: &[u8], at: usize, p: u32, q: u32) -> ElementField
     requires { ⌜ at + 4 ≤ length (now s) ⌝ }
     ensures { λ r. ⌜ r ≡ elementAt (now (s .entry)) at p q ⌝ }
 {
-    let x = Element(word(s, at));
+    let x = Element(number4(s, at));
     if group::is_element(p, q, x) {
         ElementField::Value(x, at + 4)
     } else {
@@ -60,7 +60,7 @@ pub fn exponent(s: &[u8], at: usize, q: u32) -> ExponentField
     requires { ⌜ at + 4 ≤ length (now s) ⌝ }
     ensures { λ r. ⌜ r ≡ exponentAt (now (s .entry)) at q ⌝ }
 {
-    let x = word(s, at);
+    let x = number4(s, at);
     if x < q {
         ExponentField::Value(Exponent(x), at + 4)
     } else {
@@ -72,7 +72,7 @@ pub fn count(s: &[u8], at: usize, most: u32) -> CountField
     requires { ⌜ at + 2 ≤ length (now s) ⌝ }
     ensures { λ r. ⌜ r ≡ countAt (now (s .entry)) at most ⌝ }
 {
-    let x = half(s, at);
+    let x = number2(s, at);
     if x <= most {
         CountField::Value(x, at + 2)
     } else {
@@ -83,40 +83,40 @@ pub fn count(s: &[u8], at: usize, most: u32) -> CountField
 // The number at a place, taken as an element without a test.
 pub fn as_element(s: &[u8], at: usize) -> Element
     requires { ⌜ at + 4 ≤ length (now s) ⌝ }
-    ensures { λ r. ⌜ r .0 ≡ word (now (s .entry)) at ⌝ }
+    ensures { λ r. ⌜ r .0 ≡ number4 (now (s .entry)) at ⌝ }
 {
-    Element(word(s, at))
+    Element(number4(s, at))
 }
 
 // The number at a place, taken as an exponent without a test.
 pub fn as_exponent(s: &[u8], at: usize) -> Exponent
     requires { ⌜ at + 4 ≤ length (now s) ⌝ }
-    ensures { λ r. ⌜ r .0 ≡ word (now (s .entry)) at ⌝ }
+    ensures { λ r. ⌜ r .0 ≡ number4 (now (s .entry)) at ⌝ }
 {
-    Exponent(word(s, at))
+    Exponent(number4(s, at))
 }
 
 // The first 8 bytes of a digest as a number, of no modulus yet.
-fn long(digest: &[u8; 32]) -> u64
-    ensures { λ r. ⌜ r ≡ long (now (digest .entry)) 0 ⌝ }
+fn number8(digest: &[u8; 32]) -> u64
+    ensures { λ r. ⌜ r ≡ number8 (now (digest .entry)) 0 ⌝ }
 {
-    (word(digest, 0) as u64) * 4294967296 + (word(digest, 4) as u64)
+    (number4(digest, 0) as u64) * 4294967296 + (number4(digest, 4) as u64)
 }
 
 // A digest modulo q, a proof's challenge.
 pub fn challenge(digest: &[u8; 32], q: u32) -> Exponent
     requires { ⌜ 0 < q ⌝ }
-    ensures { λ r. ⌜ r .0 ≡ long (now (digest .entry)) 0 % q ⌝ }
+    ensures { λ r. ⌜ r .0 ≡ number8 (now (digest .entry)) 0 % q ⌝ }
 {
-    group::reduce_exp(long(digest), q)
+    group::reduce_exp(number8(digest), q)
 }
 
 // A digest modulo p, of which g1 is made.
 pub fn hashed_element(digest: &[u8; 32], p: u32) -> Element
     requires { ⌜ 0 < p ⌝ }
-    ensures { λ r. ⌜ r .0 ≡ long (now (digest .entry)) 0 % p ⌝ }
+    ensures { λ r. ⌜ r .0 ≡ number8 (now (digest .entry)) 0 % p ⌝ }
 {
-    group::reduce(long(digest), p)
+    group::reduce(number8(digest), p)
 }
 
 // The product modulo p of count words, stride bytes apart, but for the one numbered out.
@@ -130,7 +130,7 @@ pub fn product_besides(
 ) -> Element
     requires { ⌜ 0 < p ⌝ }
     requires { ⌜ ((j : ℕ) → j < count → at + stride * j + 4 ≤ length (now s)) ⌝ }
-    ensures { λ r. ⌜ r .0 ≡ prodBelow count (besides out (λ j. word (now (s .entry)) (at + stride * j))) % p ⌝ }
+    ensures { λ r. ⌜ r .0 ≡ prodBelow count (besides out (λ j. number4 (now (s .entry)) (at + stride * j))) % p ⌝ }
 {
     let mut r = Element(1 % p);
     for j in 0..count {
@@ -145,7 +145,7 @@ pub fn product_besides(
 pub fn product(s: &[u8], p: u32, at: usize, stride: usize, count: usize) -> Element
     requires { ⌜ 0 < p ⌝ }
     requires { ⌜ ((j : ℕ) → j < count → at + stride * j + 4 ≤ length (now s)) ⌝ }
-    ensures { λ r. ⌜ r .0 ≡ prodBelow count (λ j. word (now (s .entry)) (at + stride * j)) % p ⌝ }
+    ensures { λ r. ⌜ r .0 ≡ prodBelow count (λ j. number4 (now (s .entry)) (at + stride * j)) % p ⌝ }
 {
     product_besides(s, p, at, stride, count, count)
 }

@@ -1,5 +1,4 @@
 -- What the functions of the library return, by what `check` and `write` answer.
--- Assumes nothing.
 use Prim.Native.Nat.{ℕ}
 use mathlib.Core.Path.{_≡_, _∙_, ap}
 use mathlib.Core.List.{List}

@@ -1,5 +1,4 @@
 -- A refusal's number and its place fit into one code.
--- Assumes nothing.
 use Prim.Native.Nat.{ℕ, _≤_}
 use mathlib.Core.Path.{_≡_, sym}
 use mathlib.Core.List.{List}

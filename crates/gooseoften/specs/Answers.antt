@@ -2,7 +2,7 @@
 use Prim.Native.Nat.{ℕ, _+_, _*_}
 use mathlib.Core.List.{List, [], _∷_, _++_}
 use Rattle.rules.specs.Check.{Verdict, accepted, refused}
-use Rattle.rules.specs.Answers.{padded}
+use Rattle.rules.specs.Answers.{withZeros}
 use Rattle.jobs.specs.Job.{Job}
 use Rattle.jobs.specs.Write.{Outcome, boardWritten, jobRefused}
 use Rattle.output.specs.Written.{written}
@@ -22,7 +22,7 @@ checkCode (accepted rounds order winner) = 0
 checkCode (refused number place) = refusalCode number place
 
 abbrev pub checkAnswer : Verdict → (answer : List ℕ) → List ℕ
-checkAnswer (accepted rounds order winner) answer = written (resultNumbers rounds winner (padded order)) answer
+checkAnswer (accepted rounds order winner) answer = written (resultNumbers rounds winner (withZeros order)) answer
 checkAnswer (refused number place) answer = answer
 
 -- ---- write: 0 and the result, or the refusal and no change
@@ -37,5 +37,5 @@ writeCode (jobRefused number which) = refusalCode number which
 
 -- with the board's length after it
 abbrev pub writeAnswer : Outcome → (answer : List ℕ) → List ℕ
-writeAnswer (boardWritten long rounds order winner) answer = written (resultNumbers rounds winner (padded order) ++ (long ∷ [])) answer
+writeAnswer (boardWritten long rounds order winner) answer = written (resultNumbers rounds winner (withZeros order) ++ (long ∷ [])) answer
 writeAnswer (jobRefused number which) answer = answer

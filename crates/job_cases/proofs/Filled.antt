@@ -1,4 +1,4 @@
--- The law of loops that fill an array. Assumes nothing.
+-- The law of loops that fill an array.
 use Prim.Native.Nat.{ℕ, _+_, _<_}
 use mathlib.Core.List.{List}
 use mathlib.Core.Path.{_≡_, _∙_}

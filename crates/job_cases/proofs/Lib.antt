@@ -1,1 +1,2 @@
+-- What a buffer is filled with.
 pub mod Filled

@@ -14,6 +14,6 @@ pub record Within (s : List ℕ) (at : ℕ) (e : Ends) : Type 0 where
   pub drawn : e .rankings + 4 ≤ e .draws
   pub ended : e .draws ≤ length s
 
-unfoldable pub Told : (s : List ℕ) (at : ℕ) → Frame → Type 0
-Told s at (F.Job e) = Within s at e
-Told s at F.Missing = Unit
+unfoldable pub FrameReads : (s : List ℕ) (at : ℕ) → Frame → Type 0
+FrameReads s at (F.Job e) = Within s at e
+FrameReads s at F.Missing = Unit

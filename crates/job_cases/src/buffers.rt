@@ -3,7 +3,7 @@ ghost use mathlib.Core.Path.{_≡_};
 ghost use mathlib.Core.Bool.{true};
 ghost use Prim.Native.Nat.{ℕ, _*_, _/_, _%_, _≤_, _<_};
 ghost use lib.ListN.{length, getD};
-ghost use Rattle.rules.specs.Bytes.{word};
+ghost use Rattle.rules.specs.Bytes.{number4};
 
 pub const DRAWS: usize = 32768;
 
@@ -24,12 +24,12 @@ fn no_output() -> [u8; ROOM]
 // Each 4 bytes as a number.
 pub fn draws_of(bytes: &[u8]) -> [u32; DRAWS]
     requires { ⌜ length (now bytes) ≤ 131075 ⌝ }
-    ensures { λ r. ⌜ (32768 ≡ length r) × ((i : ℕ) → i < length (now (bytes .entry)) / 4 → getD r i 0 ≡ word (now (bytes .entry)) (4 * i)) ⌝ }
+    ensures { λ r. ⌜ (32768 ≡ length r) × ((i : ℕ) → i < length (now (bytes .entry)) / 4 → getD r i 0 ≡ number4 (now (bytes .entry)) (4 * i)) ⌝ }
 {
     let mut draws = no_draws();
     let count = bytes.len() / 4;
     for i in 0..count {
-        draws[i] = fields::word(bytes, 4 * i);
+        draws[i] = fields::number4(bytes, 4 * i);
     }
     draws
 }

@@ -3,7 +3,7 @@ use testing::input;
 use testing::input::Piece;
 ghost use Prim.Native.Nat.{_+_, _≤_};
 ghost use lib.ListN.{length};
-ghost use Rattle.job_cases.specs.Frames.{Told};
+ghost use Rattle.job_cases.specs.Frames.{FrameReads};
 
 // Where the pieces of a frame end.
 pub struct Ends {
@@ -33,19 +33,19 @@ pub fn numbers_at(s: &[u8], at: usize) -> Numbers
     requires { ⌜ at + 28 ≤ length (now s) ⌝ }
 {
     Numbers {
-        n: numbers::wide32(fields::word(s, at)),
-        k: numbers::wide32(fields::word(s, at + 4)),
-        p: fields::word(s, at + 8),
-        q: fields::word(s, at + 12),
-        g0: fields::word(s, at + 16),
-        counter: (fields::word(s, at + 20) % 256) as u8,
-        length: numbers::wide32(fields::word(s, at + 24)),
+        n: numbers::wide32(fields::number4(s, at)),
+        k: numbers::wide32(fields::number4(s, at + 4)),
+        p: fields::number4(s, at + 8),
+        q: fields::number4(s, at + 12),
+        g0: fields::number4(s, at + 16),
+        counter: (fields::number4(s, at + 20) % 256) as u8,
+        length: numbers::wide32(fields::number4(s, at + 24)),
     }
 }
 
 // The frame at a place.
 pub fn read(s: &[u8], at: usize) -> Frame
-    ensures { λ r. ⌜ Told (now (s .entry)) at r ⌝ }
+    ensures { λ r. ⌜ FrameReads (now (s .entry)) at r ⌝ }
 {
     let Piece::Bytes(_, name) = input::piece_at(s, at) else {
         return Frame::Missing;

@@ -11,17 +11,17 @@ use Rattle.numbers.proofs.Tests.{or-false-left}
 use Rattle.rules.specs.Count.{Standing, start, next, leaves, closes, ended, table, isRanking, countsOf, countFrom, plainCount}
 use Rattle.rules.proofs.Lists.{length-table}
 use Rattle.rules.proofs.Leaving.{In, leaves-in, rounds-over}
-use Rattle.jobs.specs.Job.{Job, rankingOf, plainResult, standing, placeOf}
+use Rattle.jobs.specs.Job.{Job, rankingOf, plainResult, remaining, rowOf}
 use Rattle.jobs.proofs.Lists.{standing-all, strike}
 use Rattle.jobs.proofs.Rankings.{times, ranking-length, times-member, times-standing, length-struck, once, place-below}
 
 -- a process still in stands once on what is left of a ranking
-pub in-once : (n : ℕ) (gone r : List ℕ) (c : ℕ) → isRanking n r ≡ true → In gone n c → times c (standing gone r) ≡ 1
+pub in-once : (n : ℕ) (gone r : List ℕ) (c : ℕ) → isRanking n r ≡ true → In gone n c → times c (remaining gone r) ≡ 1
 in-once n gone r zero ranking o = absurd (not-suc-le-zero (o .low))
 in-once n gone r (suc c) ranking o = times-standing (suc c) gone r (o .still) ∙ once n r ranking c (o .high)
 
-pub place-in : (n : ℕ) (gone r : List ℕ) (c : ℕ) → isRanking n r ≡ true → In gone n c → placeOf c (standing gone r) < length (standing gone r)
-place-in n gone r c ranking o = place-below c (standing gone r) (times-member c (standing gone r) (omega (arith, in-once n gone r c ranking o)))
+pub place-in : (n : ℕ) (gone r : List ℕ) (c : ℕ) → isRanking n r ≡ true → In gone n c → rowOf c (remaining gone r) < length (remaining gone r)
+place-in n gone r c ranking o = place-below c (remaining gone r) (times-member c (remaining gone r) (omega (arith, in-once n gone r c ranking o)))
 
 module _ (job : Job) where
   abbrev pub rankings : List (List ℕ)
@@ -43,7 +43,7 @@ module _ (job : Job) where
     pub early : m + 2 ≤ job .n
     pub sheeted : length (st .sheets) ≡ m
     pub out : length (st .gone) ≡ m
-    pub short : (k : ℕ) → k < job .K → length (standing (st .gone) (rankingOf job k)) ≡ job .n - m
+    pub short : (k : ℕ) → k < job .K → length (remaining (st .gone) (rankingOf job k)) ≡ job .n - m
     pub plain : countFrom (job .n) rankings fuel st ≡ plainResult job
 
   module _ (ranked : (k : ℕ) → k < job .K → isRanking (job .n) (rankingOf job k) ≡ true) where
@@ -82,7 +82,7 @@ module _ (job : Job) where
                 rw (← (strike (leavesIn st) (st .gone) (rankingOf job k)))
                 (omega (
                   arith,
-                  length-struck (leavesIn st) (standing (st .gone) (rankingOf job k)),
+                  length-struck (leavesIn st) (remaining (st .gone) (rankingOf job k)),
                   in-once (job .n) (st .gone) (rankingOf job k) (leavesIn st) (ranked k l) leaves-still-in,
                   r .short k l,
                   r .early,

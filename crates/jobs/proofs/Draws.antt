@@ -1,4 +1,4 @@
--- Where the draws of records lie. Assumes nothing.
+-- Where the draws of records lie.
 use Prim.Native.Nat.{ℕ, zero, suc, _+_, _*_, _-_, _≤_, _<_}
 use mathlib.Core.Path.{_≡_, refl, ap}
 use native.Mathlib.Nat.{zero-add, suc-add, mul-le-mul-right}

@@ -4,7 +4,7 @@ use mathlib.Core.Path.{_≡_, refl}
 use mathlib.Core.List.{List, _++_}
 use native.Mathlib.Omega.{arith}
 use lib.ListN.{length, length-append}
-use Rattle.numbers.specs.Below.{blocks}
+use Rattle.numbers.specs.Below.{concatBelow}
 use Rattle.numbers.proofs.Blocks.{length-blocks}
 use Rattle.group.specs.Elements.{Parameters}
 use Rattle.rules.specs.Bytes.{bytes4}
@@ -18,10 +18,10 @@ use Rattle.jobs.specs.Board.{recordBytes}
 pub length-branch : (e S : ℕ) (t : ℕ → List ℕ) (r : ℕ → ℕ) → ((i : ℕ) → i < S → length (t i) ≡ 8) → length (branchBytes e S t r) ≡ 4 + 12 * S
 unfolding branchBytes
 length-branch e S t r wide =
-    let n : length (blocks S (λ i. t i ++ bytes4 (r i))) ≡ S * 12 = length-blocks S 12 _ (λ i h. simp length-append (omega (arith, wide i h))) in
+    let n : length (concatBelow S (λ i. t i ++ bytes4 (r i))) ≡ S * 12 = length-blocks S 12 _ (λ i h. simp length-append (omega (arith, wide i h))) in
     simp length-append (omega arith)
 
-pub length-pairs-row : (n : ℕ) (M : Matrix) (i : ℕ) → length (blocks n (λ j. bytes4 (M .b i j) ++ bytes4 (M .y i j))) ≡ n * 8
+pub length-pairs-row : (n : ℕ) (M : Matrix) (i : ℕ) → length (concatBelow n (λ j. bytes4 (M .b i j) ++ bytes4 (M .y i j))) ≡ n * 8
 length-pairs-row n M i = length-blocks n 8 _ (λ _ _. refl)
 
 pub length-pairs : (n : ℕ) (M : Matrix) (rows : ℕ) → length (pairBytes n M rows) ≡ 8 * (rows * n)
@@ -40,17 +40,17 @@ module _ (hash : List ℕ → List ℕ) (label : List ℕ) (g : Parameters) wher
 
   -- proofs of one size behind one another
   pub length-proofs : (n b s : ℕ) (f : ℕ → Prover) → ((i : ℕ) → f i .branches ≡ b) → ((i : ℕ) → f i .statements ≡ s) →
-      length (blocks n (λ i. proofBytes g (f i) hash label)) ≡ n * (b * (4 + 12 * s))
+      length (concatBelow n (λ i. proofBytes g (f i) hash label)) ≡ n * (b * (4 + 12 * s))
   length-proofs n b s f eb es = length-blocks n (b * (4 + 12 * s)) _ (λ i h. rw (← eb i, ← es i) (length-proof (f i)))
 
   module _ (n : ℕ) (list : ℕ → ℕ) (draws : List ℕ) (from : ℕ) where
-    pub length-entries : length (blocks n (λ i. blocks n (λ j. proofBytes g (entryProver g n list draws from i j) hash label))) ≡ n * (n * 32)
+    pub length-entries : length (concatBelow n (λ i. concatBelow n (λ j. proofBytes g (entryProver g n list draws from i j) hash label))) ≡ n * (n * 32)
     length-entries = length-blocks n (n * 32) _ (λ i _. length-proofs n 2 1 (entryProver g n list draws from i) (λ _. refl) (λ _. refl))
 
-    pub length-rows : length (blocks n (λ i. proofBytes g (rowProver g n list draws from i) hash label)) ≡ n * 16
+    pub length-rows : length (concatBelow n (λ i. proofBytes g (rowProver g n list draws from i) hash label)) ≡ n * 16
     length-rows = length-proofs n 1 1 (rowProver g n list draws from) (λ _. refl) (λ _. refl)
 
-    pub length-columns : length (blocks n (λ j. proofBytes g (columnProver g n list draws from j) hash label)) ≡ n * 16
+    pub length-columns : length (concatBelow n (λ j. proofBytes g (columnProver g n list draws from j) hash label)) ≡ n * 16
     length-columns = length-proofs n 1 1 (columnProver g n list draws from) (λ _. refl) (λ _. refl)
 
     pub length-ballot : (number : ℕ) → length (ballotBytes hash label g n number list draws from) ≡ ballotLength n

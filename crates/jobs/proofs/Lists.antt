@@ -14,13 +14,13 @@ use Rattle.numbers.specs.Below.{allBelow, sumBelow}
 use Rattle.numbers.proofs.Sums.{sum-same, sum-swap, sum-constant}
 use Rattle.numbers.proofs.Tests.{all-at, one-fails, by-cases}
 use Rattle.rules.specs.Count.{member, table, isRanking, stillIn, firstIn, votesFor}
-use Rattle.jobs.specs.Job.{standing}
+use Rattle.jobs.specs.Job.{remaining}
 use Rattle.rules.specs.Openings.{without}
 use Rattle.rules.proofs.Lists.{eqb-sym, member-append, votes-table, shorter, member-without, pigeonhole}
 
 -- ---- members struck
-pub standing-all : (r : List ℕ) → standing [] r ≡ r
-unfolding standing member
+pub standing-all : (r : List ℕ) → remaining [] r ≡ r
+unfolding remaining member
 standing-all [] = refl
 standing-all (x ∷ r) = ap (λ t. x ∷ t) (standing-all r)
 
@@ -36,8 +36,8 @@ still-in : (n c : ℕ) (gone : List ℕ) → 1 ≤ c → c ≤ n → stillIn n g
 unfolding stillIn
 still-in n c gone low high = rw (le-leb 1 c low, le-leb c n high)
 
-pub first-standing : (n : ℕ) (gone r : List ℕ) → Processes n r → getD (standing gone r) 0 0 ≡ firstIn n gone r
-unfolding standing firstIn
+pub first-standing : (n : ℕ) (gone r : List ℕ) → Processes n r → getD (remaining gone r) 0 0 ≡ firstIn n gone r
+unfolding remaining firstIn
 first-standing n gone [] p = refl
 first-standing n gone (x ∷ r) p =
     let w = p x (unfold member in simp (eq-eqb x x refl)) in
@@ -46,23 +46,23 @@ first-standing n gone (x ∷ r) p =
     (λ e. rw (still-in n x gone (w .0) (w .1), e))
 
 -- striking one more
-pub strike : (c : ℕ) (gone r : List ℕ) → without c (standing gone r) ≡ standing (gone ++ (c ∷ [])) r
-unfolding without standing member
+pub strike : (c : ℕ) (gone r : List ℕ) → without c (remaining gone r) ≡ remaining (gone ++ (c ∷ [])) r
+unfolding without remaining member
 strike c gone [] = refl
 strike c gone (x ∷ r) = go (member x gone) (eqb c x) (eqb-sym x c) refl refl (strike c gone r)
   where
-    go : (b e : Bool) → eqb x c ≡ eqb c x → member x gone ≡ b → eqb c x ≡ e → without c (standing gone r) ≡ standing (gone ++ (c ∷ [])) r →
-        without c (standing gone (x ∷ r)) ≡ standing (gone ++ (c ∷ [])) (x ∷ r)
+    go : (b e : Bool) → eqb x c ≡ eqb c x → member x gone ≡ b → eqb c x ≡ e → without c (remaining gone r) ≡ remaining (gone ++ (c ∷ [])) r →
+        without c (remaining gone (x ∷ r)) ≡ remaining (gone ++ (c ∷ [])) (x ∷ r)
     go true e s hb he ih = simp (member-append, hb) ih
     go false true s hb he ih = simp (member-append, hb, s, he) ih
     go false false s hb he ih = simp (member-append, hb, s, he) (ap (λ t. x ∷ t) ih)
 
-pub member-standing : (c : ℕ) (gone r : List ℕ) → member c gone ≡ false → member c r ≡ true → 0 < length (standing gone r)
-unfolding standing member
+pub member-standing : (c : ℕ) (gone r : List ℕ) → member c gone ≡ false → member c r ≡ true → 0 < length (remaining gone r)
+unfolding remaining member
 member-standing c gone [] out h = absurd (false≢true h)
 member-standing c gone (x ∷ r) out h = go (member x gone) refl (member-standing c gone r out)
   where
-    go : (b : Bool) → member x gone ≡ b → (member c r ≡ true → 0 < length (standing gone r)) → 0 < length (standing gone (x ∷ r))
+    go : (b : Bool) → member x gone ≡ b → (member c r ≡ true → 0 < length (remaining gone r)) → 0 < length (remaining gone (x ∷ r))
     go true e ih = simp e (ih (differ (eqb c x) refl))
       where
         differ : (b : Bool) → eqb c x ≡ b → member c r ≡ true
@@ -71,11 +71,11 @@ member-standing c gone (x ∷ r) out h = go (member x gone) refl (member-standin
     go false e ih = simp e (omega arith)
 
 -- a ranking is not used up while fewer than n have gone
-pub some-stand : (n : ℕ) (gone r : List ℕ) → isRanking n r ≡ true → length gone < n → 0 < length (standing gone r)
+pub some-stand : (n : ℕ) (gone r : List ℕ) → isRanking n r ≡ true → length gone < n → 0 < length (remaining gone r)
 unfolding isRanking
 some-stand n gone r h l = go (allBelow n (λ i. member (suc i) gone)) refl
   where
-    go : (b : Bool) → allBelow n (λ i. member (suc i) gone) ≡ b → 0 < length (standing gone r)
+    go : (b : Bool) → allBelow n (λ i. member (suc i) gone) ≡ b → 0 < length (remaining gone r)
     go true e = absurd (omega (arith, pigeonhole n gone (all-at n (λ i. member (suc i) gone) e)))
     go false e =
         let w = one-fails n (λ i. member (suc i) gone) e in
@@ -98,8 +98,8 @@ ranked-processes n r h c w = (
         let rest = pigeonhole n (without c r) (λ i l. member-without c (suc i) r (apart i l) ∙ all-at n (λ i. member (suc i) r) (has .1) i l) in
         omega arith
 
-pub standing-member : (c : ℕ) (gone r : List ℕ) → member c (standing gone r) ≡ true → member c r ≡ true
-unfolding standing member
+pub standing-member : (c : ℕ) (gone r : List ℕ) → member c (remaining gone r) ≡ true → member c r ≡ true
+unfolding remaining member
 standing-member c gone [] w = w
 standing-member c gone (x ∷ r) w =
     by-cases (member x gone)
@@ -137,6 +137,6 @@ votes-sum n K gone r full l =
     one : (k : ℕ) → k < K → sumBelow n (λ i. cond (eqb (firstIn n gone (r k)) (suc i)) 1 0) ≡ 1
     one k b =
         let p = ranked-processes n (r k) (full k b) in
-        let here = first-of (standing gone (r k)) (some-stand n gone (r k) (full k b) l) in
+        let here = first-of (remaining gone (r k)) (some-stand n gone (r k) (full k b) l) in
         let w = p (firstIn n gone (r k)) (rw (first-standing n gone (r k) p) at (standing-member _ gone (r k) here)) in
         one-is n (firstIn n gone (r k)) (w .0) (w .1)

@@ -14,7 +14,7 @@ use Rattle.numbers.proofs.Tests.{all-at, by-cases}
 use Rattle.numbers.proofs.Sums.{sum-first, sum-add, sum-zero, sum-over, all-one-over, sum-under, all-one-under}
 use Rattle.rules.specs.Count.{member, isRanking}
 use Rattle.rules.specs.Claims.{source}
-use Rattle.jobs.specs.Job.{standing, placeOf}
+use Rattle.jobs.specs.Job.{remaining, rowOf}
 use Rattle.rules.specs.Openings.{without}
 use Rattle.rules.proofs.Lists.{eqb-sym}
 
@@ -95,16 +95,16 @@ module _ (n : ℕ) (r : List ℕ) (ranking : isRanking n r ≡ true) where
       simp add-one (e ∙ once j l)
 
 -- ---- a process on a list, and the list without it
-pub place-at : (c : ℕ) (xs : List ℕ) → member c xs ≡ true → getD xs (placeOf c xs) 0 ≡ c
-unfolding placeOf member
+pub place-at : (c : ℕ) (xs : List ℕ) → member c xs ≡ true → getD xs (rowOf c xs) 0 ≡ c
+unfolding rowOf member
 place-at c [] h = absurd (false≢true h)
 place-at c (x ∷ xs) h =
     by-cases (eqb c x)
     (λ e. rw e (sym (eqb-true c x e)))
     (λ e. rw e (place-at c xs (rw e at h)))
 
-pub place-below : (c : ℕ) (xs : List ℕ) → member c xs ≡ true → placeOf c xs < length xs
-unfolding placeOf member
+pub place-below : (c : ℕ) (xs : List ℕ) → member c xs ≡ true → rowOf c xs < length xs
+unfolding rowOf member
 place-below c [] h = absurd (false≢true h)
 place-below c (x ∷ xs) h =
     by-cases (eqb c x)
@@ -125,17 +125,17 @@ source-suc l i =
     (λ e. rw (e, lt-ltb (suc i) (suc l) (omega (arith, ltb-true i l e))))
     (λ e. rw (e, le-ltb (suc i) (suc l) (omega (arith, ltb-false i l e))) (omega arith))
 
-pub struck-at : (c : ℕ) (xs : List ℕ) → times c xs ≡ 1 → (i : ℕ) → getD (without c xs) i 0 ≡ getD xs (source (placeOf c xs) i) 0
-unfolding times without placeOf
+pub struck-at : (c : ℕ) (xs : List ℕ) → times c xs ≡ 1 → (i : ℕ) → getD (without c xs) i 0 ≡ getD xs (source (rowOf c xs) i) 0
+unfolding times without rowOf
 struck-at c [] h i = absurd (omega arith)
 struck-at c (x ∷ xs) h zero =
     by-cases (eqb c x)
     (λ e. rw (e, without-none c xs (omega (arith, rw (eqb-sym x c, e) at h))))
-    (λ e. rw (e, lt-ltb 0 (suc (placeOf c xs)) (omega arith)))
+    (λ e. rw (e, lt-ltb 0 (suc (rowOf c xs)) (omega arith)))
 struck-at c (x ∷ xs) h (suc i) =
     by-cases (eqb c x)
     (λ e. rw (e, without-none c xs (omega (arith, rw (eqb-sym x c, e) at h)), le-ltb (suc i) 0 (omega arith), add-one))
-    (λ e. rw (e, source-suc (placeOf c xs) i) (struck-at c xs (omega (arith, rw (eqb-sym x c, e) at h)) i))
+    (λ e. rw (e, source-suc (rowOf c xs) i) (struck-at c xs (omega (arith, rw (eqb-sym x c, e) at h)) i))
 
 -- what is struck from a list is missing from its length
 pub length-struck : (c : ℕ) (xs : List ℕ) → length (without c xs) + times c xs ≡ length xs
@@ -146,8 +146,8 @@ length-struck c (x ∷ xs) =
     (λ e. rw (eqb-sym x c, e) (omega (arith, length-struck c xs)))
     (λ e. rw (eqb-sym x c, e) (omega (arith, length-struck c xs)))
 
-pub times-standing : (c : ℕ) (gone r : List ℕ) → member c gone ≡ false → times c (standing gone r) ≡ times c r
-unfolding times standing
+pub times-standing : (c : ℕ) (gone r : List ℕ) → member c gone ≡ false → times c (remaining gone r) ≡ times c r
+unfolding times remaining
 times-standing c gone [] h = refl
 times-standing c gone (x ∷ r) h =
     by-cases (member x gone)

@@ -5,7 +5,7 @@ use mathlib.Core.List.{List, _++_}
 use native.Mathlib.Nat.{add-mod-mod}
 use borrow.Author.Tests.{eqb-false}
 use lib.Dec.{eqb}
-use Rattle.numbers.specs.Below.{blocks}
+use Rattle.numbers.specs.Below.{concatBelow}
 use Rattle.numbers.proofs.Blocks.{blocks-same}
 use Rattle.numbers.proofs.Tests.{by-cases}
 use Rattle.numbers.proofs.Residues.{mul-mod-right}
@@ -29,7 +29,7 @@ module _ (hash : List ℕ → List ℕ) (label : List ℕ) (g : Parameters) (dra
     same-whole : wholeChallenge g (maker claim w) hash label ≡ wholeChallenge g (maker claim' w') hash label
     unfolding wholeChallenge
     same-whole =
-        let s : blocks branches (λ l. blocks statements (committed g (maker claim w) l)) ≡ blocks branches (λ l. blocks statements (committed g (maker claim' w') l)) =
+        let s : concatBelow branches (λ l. concatBelow statements (committed g (maker claim w) l)) ≡ concatBelow branches (λ l. concatBelow statements (committed g (maker claim' w') l)) =
         blocks-same branches _ _ (λ l h. blocks-same statements _ _ (λ i k. same-committed l i h k)) in
         rw s
 

@@ -2,13 +2,13 @@
 use Prim.Native.Nat.{ℕ, zero, suc, _+_, _-_}
 use mathlib.Core.Bool.{cond}
 use mathlib.Core.List.{List, [], _∷_, _++_}
-use Rattle.numbers.specs.Below.{blocks}
+use Rattle.numbers.specs.Below.{concatBelow}
 use Rattle.group.specs.Elements.{Parameters}
 use Rattle.rules.specs.Bytes.{bytes2, bytes4}
 use Rattle.rules.specs.Records.{HD}
 use Rattle.rules.specs.Claims.{Matrix}
 use Rattle.rules.specs.Count.{Standing, start, next, leaves, closes, table, countsOf}
-use Rattle.jobs.specs.Job.{Job, groupOf, rankingOf, rowsOf, standing, placeOf, recordDraws, roundDraws, drawsAt}
+use Rattle.jobs.specs.Job.{Job, groupOf, rankingOf, rowsOf, remaining, rowOf, recordDraws, roundDraws, drawsAt}
 use Rattle.jobs.specs.Records.{matrixOf, ballotBytes, shiftBytes, sheetBytes}
 
 module _ (job : Job) (g : Parameters) where
@@ -29,7 +29,7 @@ module _ (hash : List ℕ → List ℕ) (job : Job) (g : Parameters) where
   abbrev pub jobShift : (before : List ℕ) (a m k : ℕ) → List ℕ
   jobShift before a m k =
       shiftBytes hash (job .label) g (job .n) (job .n - suc m) (k + 1) (rowsOf job before k) (rowsOf job (before ++ (a ∷ [])) k)
-      (placeOf a (standing before (rankingOf job k))) (a - 1) (job .draws) (drawsAt (job .n) (job .K) m k) (drawsAt (job .n) (job .K) (suc m) k)
+      (rowOf a (remaining before (rankingOf job k))) (a - 1) (job .draws) (drawsAt (job .n) (job .K) m k) (drawsAt (job .n) (job .K) (suc m) k)
 
   -- ballot k's record in round m
   unfoldable pub recordBytes : (before : List ℕ) (a m k : ℕ) → List ℕ
@@ -41,7 +41,7 @@ module _ (hash : List ℕ → List ℕ) (job : Job) (g : Parameters) where
   roundsFrom zero st m before a = []
   roundsFrom (suc fuel) st m before a =
       let counts = countsOf (job .n) (table (job .K) (rankingOf job)) (st .gone) in
-      blocks (job .K) (recordBytes before a m)
+      concatBelow (job .K) (recordBytes before a m)
       ++ cond (closes (job .n) st counts (job .K))
       (jobSheet job g m 0 counts)
       (jobSheet job g m (leaves (job .n) st counts) counts

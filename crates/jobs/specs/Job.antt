@@ -38,14 +38,14 @@ abbrev pub drawsAt : (n K m k : ℕ) → ℕ
 drawsAt n K m k = roundDraws n K m + k * recordDraws n m
 
 -- those of a ranking that are still in
-unfoldable pub standing : (gone ranking : List ℕ) → List ℕ
-standing gone [] = []
-standing gone (c ∷ cs) = cond (member c gone) (standing gone cs) (c ∷ standing gone cs)
+unfoldable pub remaining : (gone ranking : List ℕ) → List ℕ
+remaining gone [] = []
+remaining gone (c ∷ cs) = cond (member c gone) (remaining gone cs) (c ∷ remaining gone cs)
 
 -- the place of a process on a list of different ones
-unfoldable pub placeOf : ℕ → List ℕ → ℕ
-placeOf c [] = 0
-placeOf c (x ∷ xs) = cond (eqb c x) 0 (suc (placeOf c xs))
+unfoldable pub rowOf : ℕ → List ℕ → ℕ
+rowOf c [] = 0
+rowOf c (x ∷ xs) = cond (eqb c x) 0 (suc (rowOf c xs))
 
 module _ (job : Job) where
   abbrev pub rankingOf : (k : ℕ) → List ℕ
@@ -56,7 +56,7 @@ module _ (job : Job) where
 
   -- the process of each row of ballot k, those gone out struck; 0 past the last
   abbrev pub rowsOf : (gone : List ℕ) (k : ℕ) → ℕ → ℕ
-  rowsOf gone k i = getD (standing gone (rankingOf k)) i 0
+  rowsOf gone k i = getD (remaining gone (rankingOf k)) i 0
 
   abbrev pub plainResult : Result
   plainResult = plainCount (job .n) (table (job .K) rankingOf)

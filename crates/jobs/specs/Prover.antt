@@ -3,7 +3,7 @@ use Prim.Native.Nat.{ℕ, _+_, _*_, _-_, _%_}
 use mathlib.Core.Bool.{cond}
 use mathlib.Core.List.{List, _++_}
 use lib.Dec.{ltb, eqb}
-use Rattle.numbers.specs.Below.{sumBelow, blocks}
+use Rattle.numbers.specs.Below.{sumBelow, concatBelow}
 use Rattle.group.specs.Arithmetic.{mulMod, powMod}
 use Rattle.group.specs.Elements.{Parameters}
 use Rattle.rules.specs.Bytes.{bytes4}
@@ -43,7 +43,7 @@ falseCommitment g base side e r = mulMod (g .p) (powMod (g .p) base r) (powMod (
 
 -- a branch: a challenge, then for each statement its commitments and response
 unfoldable pub branchBytes : (challenge statements : ℕ) (commitments : ℕ → List ℕ) (response : ℕ → ℕ) → List ℕ
-branchBytes e S t r = bytes4 e ++ blocks S (λ i. t i ++ bytes4 (r i))
+branchBytes e S t r = bytes4 e ++ concatBelow S (λ i. t i ++ bytes4 (r i))
 
 module _ (g : Parameters) (pr : Prover) where
   -- "t1 = g0^nonce, t2 = g1^nonce"; of a false branch as above
@@ -56,7 +56,7 @@ module _ (g : Parameters) (pr : Prover) where
 
   module _ (hash : List ℕ → List ℕ) (label : List ℕ) where
     unfoldable pub wholeChallenge : ℕ
-    wholeChallenge = challenge hash label (blocks (pr .branches) (λ l. blocks (pr .statements) (committed l))) (g .q)
+    wholeChallenge = challenge hash label (concatBelow (pr .branches) (λ l. concatBelow (pr .statements) (committed l))) (g .q)
 
     -- the whole challenge less the false ones
     unfoldable pub trueChallenge : ℕ
@@ -69,4 +69,4 @@ module _ (g : Parameters) (pr : Prover) where
     responseOf l i = cond (eqb l (pr .known)) ((nonce pr i + trueChallenge * pr .witness i) % g .q) (falseResponse pr l i)
 
     unfoldable pub proofBytes : List ℕ
-    proofBytes = blocks (pr .branches) (λ l. branchBytes (challengeOf l) (pr .statements) (committed l) (responseOf l))
+    proofBytes = concatBelow (pr .branches) (λ l. branchBytes (challengeOf l) (pr .statements) (committed l) (responseOf l))

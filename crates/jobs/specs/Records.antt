@@ -4,7 +4,7 @@ use mathlib.Core.Bool.{cond}
 use mathlib.Core.List.{List, [], _∷_, _++_}
 use lib.Dec.{eqb}
 use lib.ListN.{getD}
-use Rattle.numbers.specs.Below.{sumBelow, blocks}
+use Rattle.numbers.specs.Below.{sumBelow, concatBelow}
 use Rattle.group.specs.Arithmetic.{powMod}
 use Rattle.group.specs.Elements.{Parameters}
 use Rattle.rules.specs.Bytes.{bytes2, bytes4}
@@ -30,7 +30,7 @@ matrixOf g n list draws from =
 
 -- pairs by rows of n columns
 abbrev pub pairBytes : (n : ℕ) → Matrix → (rows : ℕ) → List ℕ
-pairBytes n M rows = blocks rows (λ i. blocks n (λ j. bytes4 (M .b i j) ++ bytes4 (M .y i j)))
+pairBytes n M rows = concatBelow rows (λ i. concatBelow n (λ j. bytes4 (M .b i j) ++ bytes4 (M .y i j)))
 
 -- ---- proofs: which branch is true, why, and where their draws start
 -- of a row or column: the exponents of its pairs add up to the witness x
@@ -81,9 +81,9 @@ module _ (hash : List ℕ → List ℕ) (label : List ℕ) (g : Parameters) (n :
   -- "BA | number 2; n² pairs (b 4, Y 4) by rows; n² entry, n row, n column proofs"
   unfoldable pub ballotProofBytes : (list : ℕ → ℕ) (draws : List ℕ) (from : ℕ) → List ℕ
   ballotProofBytes list draws from =
-      blocks n (λ i. blocks n (λ j. proofBytes g (entryProver g n list draws from i j) hash label))
-      ++ blocks n (λ i. proofBytes g (rowProver g n list draws from i) hash label)
-      ++ blocks n (λ j. proofBytes g (columnProver g n list draws from j) hash label)
+      concatBelow n (λ i. concatBelow n (λ j. proofBytes g (entryProver g n list draws from i j) hash label))
+      ++ concatBelow n (λ i. proofBytes g (rowProver g n list draws from i) hash label)
+      ++ concatBelow n (λ j. proofBytes g (columnProver g n list draws from j) hash label)
 
   unfoldable pub ballotBytes : (number : ℕ) (list : ℕ → ℕ) (draws : List ℕ) (from : ℕ) → List ℕ
   ballotBytes number list draws from =
@@ -100,4 +100,4 @@ abbrev pub sheetColumn : (q n K : ℕ) (draws : List ℕ) (from each : ℕ) (cou
 sheetColumn q n K draws from each counts i = bytes2 (getD counts i 0) ++ bytes4 (sumBelow K (λ k. secretAt n draws (from + k * each) 0 i) % q)
 
 unfoldable pub sheetBytes : (q n K : ℕ) (draws : List ℕ) (from each m out : ℕ) (counts : List ℕ) → List ℕ
-sheetBytes q n K draws from each m out counts = RT ++ ((m + 1) ∷ out ∷ []) ++ blocks n (sheetColumn q n K draws from each counts)
+sheetBytes q n K draws from each m out counts = RT ++ ((m + 1) ∷ out ∷ []) ++ concatBelow n (sheetColumn q n K draws from each counts)

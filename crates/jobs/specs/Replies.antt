@@ -2,7 +2,7 @@
 use Prim.Native.Nat.{ℕ, _-_}
 use mathlib.Core.List.{List}
 use lib.ListN.{take, replicate}
-use Rattle.rules.specs.Answers.{refusalNumber, padded}
+use Rattle.rules.specs.Answers.{refusalNumber, withZeros}
 use Rattle.jobs.specs.Write.{Outcome, boardWritten, jobRefused}
 use Rattle.jobs.specs.declared.Reply.{Reply}
 use Rattle.jobs.specs.declared.Reply.the-variants as W
@@ -18,5 +18,5 @@ outcomeOf r = replyOf (r .reply) (r .order)
 
 -- what the array holds: the order of going out, then zeros; zeros alone where the job is refused
 abbrev pub orderWritten : Outcome → List ℕ
-orderWritten (boardWritten length rounds order winner) = padded order
+orderWritten (boardWritten length rounds order winner) = withZeros order
 orderWritten (jobRefused number which) = replicate 8 0

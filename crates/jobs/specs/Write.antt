@@ -57,19 +57,19 @@ firstBad job zero = 0
 firstBad job (suc k) = cond (eqb (firstBad job k) 0) (cond (isRanking (job .n) (rankingOf job k)) 0 (suc k)) (firstBad job k)
 
 -- "With 13 goes the first bad ranking from 1, or 0 for a wrong length; with the others 0."
-unfoldable pub which : Job → (number : ℕ) → ℕ
-which job number = cond (eqb number 13 && eqb (length (job .rankings)) (job .K * job .n)) (firstBad job (job .K)) 0
+unfoldable pub badRanking : Job → (number : ℕ) → ℕ
+badRanking job number = cond (eqb number 13 && eqb (length (job .rankings)) (job .K * job .n)) (firstBad job (job .K)) 0
 
 -- "A written one gives the board's length and result", a refused one its number and which
 pub data Outcome : Type 0 where
   boardWritten : (length rounds : ℕ) (order : List ℕ) (winner : ℕ) → Outcome
-  jobRefused : (number which : ℕ) → Outcome
+  jobRefused : (number badRanking : ℕ) → Outcome
 
 unfoldable pub writeOutcome : (hash : List ℕ → List ℕ) → Job → (room : ℕ) → Outcome
 writeOutcome hash job room =
     cond (eqb (jobFault hash job room) 0)
     (boardWritten (boardLength job) (plainResult job .rounds) (plainResult job .order) (plainResult job .winner))
-    (jobRefused (jobFault hash job room) (which job (jobFault hash job room)))
+    (jobRefused (jobFault hash job room) (badRanking job (jobFault hash job room)))
 
 -- "A refused job changes nothing in the output." "bytes past it stay"
 unfoldable pub writeOutput : (hash : List ℕ → List ℕ) → Job → (out : List ℕ) → List ℕ

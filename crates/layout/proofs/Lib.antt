@@ -1,1 +1,2 @@
+-- The length of a record in each round.
 pub mod Rounds

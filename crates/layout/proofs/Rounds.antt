@@ -1,4 +1,4 @@
--- The length of a ballot's record, by round. Assumes nothing.
+-- The length of a ballot's record, by round.
 use Prim.Native.Nat.{ℕ, zero, suc, _-_}
 use mathlib.Core.Path.{_≡_, refl}
 use Rattle.rules.specs.Records.{recordLength, ballotLength, shiftLength}

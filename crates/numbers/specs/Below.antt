@@ -21,6 +21,6 @@ prodBelow zero f = 1
 prodBelow (suc k) f = prodBelow k f * f k
 
 -- f 0, f 1, .. one after another
-unfoldable pub blocks : ℕ → (ℕ → List ℕ) → List ℕ
-blocks zero f = []
-blocks (suc k) f = blocks k f ++ f k
+unfoldable pub concatBelow : ℕ → (ℕ → List ℕ) → List ℕ
+concatBelow zero f = []
+concatBelow (suc k) f = concatBelow k f ++ f k

@@ -17,14 +17,14 @@ pub fn wide32(x: u32) -> usize
 }
 
 // A byte as a word.
-pub fn word(x: u8) -> u32
+pub fn byte32(x: u8) -> u32
     ensures { λ r. ⌜ (r ≡ x) × (r < 256) ⌝ }
 {
     x as u32
 }
 
 // A word as a number of 8 bytes.
-pub fn long(x: u32) -> u64
+pub fn wide64(x: u32) -> u64
     ensures { λ r. ⌜ (r ≡ x) × (r < 4294967296) ⌝ }
 {
     x as u64
@@ -39,7 +39,7 @@ pub fn low(x: usize) -> u8
 }
 
 // An index as a number of 2 bytes.
-pub fn half(x: usize) -> u32
+pub fn low16(x: usize) -> u32
     requires { ⌜ x < 65536 ⌝ }
     ensures { λ r. ⌜ r ≡ x ⌝ }
 {

@@ -1,5 +1,4 @@
 -- Laws of an output whose front is written, for functions that write into its unwritten rest or into a place within what is written.
--- Assumes nothing.
 use Prim.Native.Nat.{ℕ, suc, _+_, _*_, _-_, _≤_, _<_}
 use mathlib.Core.Path.{_≡_, refl, _∙_, sym, ap}
 use mathlib.Core.List.{List, [], _∷_, _++_, append-assoc, append-nil}
@@ -9,7 +8,7 @@ use native.Mathlib.Omega.{arith}
 use lib.ListN.{length, getD, set, take, drop, length-append, length-drop, length-take, take-append-drop, drop-of-length-le}
 use lib.Seq.{sets, sets-eq, take-suc, drop-cons, set-at, append-snoc, take-at, drop-at, take-all, drop-drop, length-take-le}
 use borrow.Rule.Slice.PartMut.{midOf, putMid}
-use Rattle.numbers.specs.Below.{blocks}
+use Rattle.numbers.specs.Below.{concatBelow}
 use Rattle.numbers.proofs.Blocks.{length-blocks}
 use Rattle.rules.specs.Bytes.{part}
 use Rattle.output.specs.Written.{written}
@@ -79,8 +78,8 @@ patch x old new y o l r a n m el er =
     put-rest a l r h ∙ rw (er, rest-is a l h, d, t, past, s, append-assoc x (new ++ y), append-assoc new y)
 
 -- one more of a run of lists
-pub blocks-more : (f : ℕ → List ℕ) (n : ℕ) → blocks (n + 1) f ≡ blocks n f ++ f n
-unfolding blocks
+pub blocks-more : (f : ℕ → List ℕ) (n : ℕ) → concatBelow (n + 1) f ≡ concatBelow n f ++ f n
+unfolding concatBelow
 blocks-more f n = rw add-one
 
 -- the front is read back
@@ -100,10 +99,10 @@ rest-from x w o l a n e =
     rest-is a l h ∙ rw whole (drop-at x _ a n)
 
 -- one more of a run of lists of one width is written where the run ends
-pub block-more : (f : ℕ → List ℕ) (w i a : ℕ) (o l x : List ℕ) → ((j : ℕ) → j < i → length (f j) ≡ w) → a ≡ i * w → l ≡ written (blocks i f) o →
-    x ≡ written (f i) (midOf a (length l - a) l) → putMid a (length l - a) l x ≡ written (blocks (i + 1) f) o
+pub block-more : (f : ℕ → List ℕ) (w i a : ℕ) (o l x : List ℕ) → ((j : ℕ) → j < i → length (f j) ≡ w) → a ≡ i * w → l ≡ written (concatBelow i f) o →
+    x ≡ written (f i) (midOf a (length l - a) l) → putMid a (length l - a) l x ≡ written (concatBelow (i + 1) f) o
 block-more f w i a o l x wide ea el ex =
-    more (blocks i f) (f i) o l x a (length-blocks i w f wide ∙ sym ea) el ex ∙ rw (blocks-more f i)
+    more (concatBelow i f) (f i) o l x a (length-blocks i w f wide ∙ sym ea) el ex ∙ rw (blocks-more f i)
 
 -- one more byte is copied
 pub copy-more : (s o : List ℕ) (i : ℕ) → i < length s → length s ≤ length o → set (written (take i s) o) i (getD s i 0) ≡ written (take (i + 1) s) o

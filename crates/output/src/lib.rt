@@ -14,7 +14,7 @@ pub fn put_two(out: &mut [u8], two: [u8; 2])
     out[1] = two[1];
 }
 
-pub fn put_half(out: &mut [u8], x: u32)
+pub fn put_number2(out: &mut [u8], x: u32)
     requires { ⌜ 2 ≤ length (now out) ⌝ }
     ensures { λ _. ⌜ now (out .exit) ≡ written (bytes2 x) (now (out .entry)) ⌝ }
 {
@@ -22,7 +22,7 @@ pub fn put_half(out: &mut [u8], x: u32)
     out[1] = (x % 256) as u8;
 }
 
-pub fn put_word(out: &mut [u8], x: u32)
+pub fn put_number4(out: &mut [u8], x: u32)
     requires { ⌜ 4 ≤ length (now out) ⌝ }
     ensures { λ _. ⌜ now (out .exit) ≡ written (bytes4 x) (now (out .entry)) ⌝ }
 {

@@ -1,4 +1,4 @@
--- The plain count, round by round, as the code's standing count goes. Assumes nothing.
+-- The plain count, round by round, as the code's standing count goes.
 use Prim.Native.Nat.{ℕ, zero, suc, _+_, _*_, _-_, _≤_, _<_}
 use mathlib.Core.Path.{_≡_, refl, sym, ap, _∙_}
 use mathlib.Core.Bool.{Bool, true, false, _||_, true≢false}
@@ -18,7 +18,7 @@ use Rattle.jobs.specs.Job.{roundDraws, recordDraws}
 use Rattle.count.specs.declared.Count.{Count}
 use Rattle.count.specs.declared.Gone.{Gone}
 use Rattle.count.specs.State.{standingOf, listOf, Listed}
-use Rattle.rules.specs.Answers.{padded}
+use Rattle.rules.specs.Answers.{withZeros}
 use Rattle.plain.proofs.Lists.{pad-more}
 
 module _ (n k : ℕ) (f : ℕ → List ℕ) (c : Count) (m : ℕ) (cs : List ℕ) (low : m < n)
@@ -45,11 +45,11 @@ unfolding roundAt
 length-more n K m d r s e h t = rw (add-one, e, h, t) (omega arith)
 
 -- the first of an order, one by one
-pub first-more : (order : List ℕ) (i : ℕ) → i < 8 → length order ≡ 8 → set (padded (take i order)) i (getD order i 0) ≡ padded (take (i + 1) order)
+pub first-more : (order : List ℕ) (i : ℕ) → i < 8 → length order ≡ 8 → set (withZeros (take i order)) i (getD order i 0) ≡ withZeros (take (i + 1) order)
 first-more order i h e =
-    pad-more (take i order) i (getD order i 0) (length-take-le i order (omega arith)) h ∙ ap padded (sym (rw add-one (take-suc order i 0 (omega arith))))
+    pad-more (take i order) i (getD order i 0) (length-take-le i order (omega arith)) h ∙ ap withZeros (sym (rw add-one (take-suc order i 0 (omega arith))))
 
-module _ (order first : List ℕ) (outs : ℕ) (few : outs ≤ 8) (long : length order ≡ 8) (e : first ≡ padded (take outs order)) where
+module _ (order first : List ℕ) (outs : ℕ) (few : outs ≤ 8) (long : length order ≡ 8) (e : first ≡ withZeros (take outs order)) where
   abbrev cut : Gone
   cut = record { outs = outs; order = first }
 
@@ -57,7 +57,7 @@ module _ (order first : List ℕ) (outs : ℕ) (few : outs ≤ 8) (long : length
   count = length-take-le outs order (omega arith)
 
   pub first-listed : Listed cut
-  unfolding padded
+  unfolding withZeros
   first-listed =
       record {
         few = few;
@@ -66,7 +66,7 @@ module _ (order first : List ℕ) (outs : ℕ) (few : outs ≤ 8) (long : length
       }
 
   pub first-list : listOf cut ≡ take outs order
-  unfolding padded
+  unfolding withZeros
   first-list = rw e (take-at (take outs order) (replicate (8 - length (take outs order)) 0) outs count)
 
 pub far : (m n : ℕ) → m + 2 ≤ n → (m + 1 ≡ n - 1 → ⊥) → m + 1 + 2 ≤ n

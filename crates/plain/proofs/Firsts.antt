@@ -1,4 +1,4 @@
--- The counts of a round, ranking by ranking. Assumes nothing.
+-- The counts of a round, ranking by ranking.
 use Prim.Native.Nat.{ℕ, zero, suc, _+_, _-_, _≤_, _<_}
 use mathlib.Core.Path.{_≡_, refl, sym, ap, _∙_}
 use mathlib.Core.Bool.{Bool, true, false, cond, not}

@@ -1,3 +1,4 @@
+-- Laws of the plain count of lent rankings.
 pub mod Lists
 pub mod Firsts
 pub mod Sizes

@@ -1,4 +1,4 @@
--- Those still in, one by one; a place found. Assumes nothing.
+-- Those still in, one by one; a place found.
 use Prim.Native.Nat.{ℕ, zero, suc, _+_, _-_, _≤_, _<_}
 use mathlib.Core.Path.{_≡_, refl, sym, ap, _∙_}
 use mathlib.Core.Bool.{true, false}
@@ -13,11 +13,11 @@ use lib.Seq.{take-suc, drop-cons, set-at, append-snoc, getD-drop}
 use Rattle.numbers.proofs.Tests.{by-cases}
 use Rattle.rules.specs.Bytes.{part}
 use Rattle.rules.specs.Count.{member}
-use Rattle.jobs.specs.Job.{standing, placeOf}
-use Rattle.rules.specs.Answers.{padded}
+use Rattle.jobs.specs.Job.{remaining, rowOf}
+use Rattle.rules.specs.Answers.{withZeros}
 
-standing-append : (gone a b : List ℕ) → standing gone (a ++ b) ≡ standing gone a ++ standing gone b
-unfolding standing
+standing-append : (gone a b : List ℕ) → remaining gone (a ++ b) ≡ remaining gone a ++ remaining gone b
+unfolding remaining
 standing-append gone [] b = refl
 standing-append gone (c ∷ a) b = by-cases (member c gone) (λ e. rw e (standing-append gone a b)) (λ e. rw e (ap (λ (l : List ℕ). c ∷ l) (standing-append gone a b)))
 
@@ -26,37 +26,37 @@ part-more s at i h =
     let k : i < length (drop at s) = simp length-drop (omega arith) in
     rw (add-one, take-suc (drop at s) i 0 k, getD-drop)
 
-length-standing : (gone a : List ℕ) → length (standing gone a) ≤ length a
-unfolding standing
+length-standing : (gone a : List ℕ) → length (remaining gone a) ≤ length a
+unfolding remaining
 length-standing gone [] = omega arith
 length-standing gone (c ∷ a) = by-cases (member c gone) (λ e. rw e (omega (arith, length-standing gone a))) (λ e. rw e (omega (arith, length-standing gone a)))
 
-one-out : (gone l : List ℕ) (c : ℕ) → member c gone ≡ true → l ++ standing gone (c ∷ []) ≡ l
-unfolding standing
+one-out : (gone l : List ℕ) (c : ℕ) → member c gone ≡ true → l ++ remaining gone (c ∷ []) ≡ l
+unfolding remaining
 one-out gone l c e = rw (e, append-nil)
 
-one-in : (gone l : List ℕ) (c : ℕ) → member c gone ≡ false → l ++ standing gone (c ∷ []) ≡ l ++ (c ∷ [])
-unfolding standing
+one-in : (gone l : List ℕ) (c : ℕ) → member c gone ≡ false → l ++ remaining gone (c ∷ []) ≡ l ++ (c ∷ [])
+unfolding remaining
 one-in gone l c e = rw e
 
 module _ (gone s : List ℕ) (at i : ℕ) (h : at + i < length s) where
-  step : standing gone (part s at (i + 1)) ≡ standing gone (part s at i) ++ standing gone (getD s (at + i) 0 ∷ [])
-  step = ap (standing gone) (part-more s at i h) ∙ standing-append gone (part s at i) (getD s (at + i) 0 ∷ [])
+  step : remaining gone (part s at (i + 1)) ≡ remaining gone (part s at i) ++ remaining gone (getD s (at + i) 0 ∷ [])
+  step = ap (remaining gone) (part-more s at i h) ∙ standing-append gone (part s at i) (getD s (at + i) 0 ∷ [])
 
-  pub standing-out : member (getD s (at + i) 0) gone ≡ true → standing gone (part s at i) ≡ standing gone (part s at (i + 1))
-  standing-out e = sym (step ∙ one-out gone (standing gone (part s at i)) (getD s (at + i) 0) e)
+  pub standing-out : member (getD s (at + i) 0) gone ≡ true → remaining gone (part s at i) ≡ remaining gone (part s at (i + 1))
+  standing-out e = sym (step ∙ one-out gone (remaining gone (part s at i)) (getD s (at + i) 0) e)
 
-  pub standing-in : member (getD s (at + i) 0) gone ≡ false → standing gone (part s at i) ++ (getD s (at + i) 0 ∷ []) ≡ standing gone (part s at (i + 1))
-  standing-in e = sym (step ∙ one-in gone (standing gone (part s at i)) (getD s (at + i) 0) e)
+  pub standing-in : member (getD s (at + i) 0) gone ≡ false → remaining gone (part s at i) ++ (getD s (at + i) 0 ∷ []) ≡ remaining gone (part s at (i + 1))
+  standing-in e = sym (step ∙ one-in gone (remaining gone (part s at i)) (getD s (at + i) 0) e)
 
-pub pad-more : (l : List ℕ) (n c : ℕ) → length l ≡ n → n < 8 → set (padded l) n c ≡ padded (l ++ (c ∷ []))
-unfolding padded
+pub pad-more : (l : List ℕ) (n c : ℕ) → length l ≡ n → n < 8 → set (withZeros l) n c ≡ withZeros (l ++ (c ∷ []))
+unfolding withZeros
 pad-more l n c e h =
     let m : length (l ++ (c ∷ [])) ≡ suc n = simp length-append (omega arith) in
     let k : 8 - n ≡ suc (8 - suc n) = omega arith in
     rw (m, e, k, append-snoc) (set-at l 0 (replicate (8 - suc n) 0) c n e)
 
-pub part-few : (gone s : List ℕ) (at i : ℕ) → length (standing gone (part s at i)) ≤ i
+pub part-few : (gone s : List ℕ) (at i : ℕ) → length (remaining gone (part s at i)) ≤ i
 part-few gone s at i =
     let a = length-standing gone (part s at i) in
     let b : length (part s at i) ≤ i = simp (length-take) (omega arith) in
@@ -72,8 +72,8 @@ pad-at [] m i = getD-zeros m i
 pad-at (x ∷ l) m zero = refl
 pad-at (x ∷ l) m (suc i) = pad-at l m i
 
-pub padded-at : (l : List ℕ) (i : ℕ) → getD (padded l) i 0 ≡ getD l i 0
-unfolding padded
+pub padded-at : (l : List ℕ) (i : ℕ) → getD (withZeros l) i 0 ≡ getD l i 0
+unfolding withZeros
 padded-at l i = pad-at l (8 - length l) i
 
 -- a search through the first of a list
@@ -81,19 +81,19 @@ module _ (list : List ℕ) (size a i : ℕ) (long : size ≤ length list) where
   cut : i < size → drop i (take size list) ≡ getD (take size list) i 0 ∷ drop (suc i) (take size list)
   cut h = drop-cons (take size list) i 0 (simp length-take (omega arith))
 
-  pub place-found : i < size → getD (take size list) i 0 ≡ a → placeOf a (take size list) ≡ i + placeOf a (drop i (take size list)) → i ≡ placeOf a (take size list)
-  unfolding placeOf
+  pub place-found : i < size → getD (take size list) i 0 ≡ a → rowOf a (take size list) ≡ i + rowOf a (drop i (take size list)) → i ≡ rowOf a (take size list)
+  unfolding rowOf
   place-found h e w = sym (w ∙ rw (cut h, e, eq-eqb a a refl) (add-zero i))
 
-  pub place-passed : i < size → (getD (take size list) i 0 ≡ a → ⊥) → placeOf a (take size list) ≡ i + placeOf a (drop i (take size list)) →
-      placeOf a (take size list) ≡ i + 1 + placeOf a (drop (i + 1) (take size list))
-  unfolding placeOf
+  pub place-passed : i < size → (getD (take size list) i 0 ≡ a → ⊥) → rowOf a (take size list) ≡ i + rowOf a (drop i (take size list)) →
+      rowOf a (take size list) ≡ i + 1 + rowOf a (drop (i + 1) (take size list))
+  unfolding rowOf
   place-passed h n w =
       let t : eqb a (getD (take size list) i 0) ≡ false = ne-eqb a (getD (take size list) i 0) (λ e. n (sym e)) in
       w ∙ rw (cut h, t, add-one) (omega arith)
 
-  pub place-end : size ≤ i → placeOf a (take size list) ≡ i + placeOf a (drop i (take size list)) → i ≡ placeOf a (take size list)
-  unfolding placeOf
+  pub place-end : size ≤ i → rowOf a (take size list) ≡ i + rowOf a (drop i (take size list)) → i ≡ rowOf a (take size list)
+  unfolding rowOf
   place-end h w =
       let n : drop i (take size list) ≡ [] = drop-of-length-le (take size list) {i = i} (simp length-take (omega arith)) in
       sym (w ∙ rw n (add-zero i))

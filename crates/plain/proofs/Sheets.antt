@@ -1,4 +1,4 @@
--- The counts of every round of a plain count are those of the rankings, with the first of the order gone out. Assumes nothing.
+-- The counts of every round of a plain count are those of the rankings, with the first of the order gone out.
 use Prim.Native.Nat.{ℕ, zero, suc, _+_, _≤_, _<_}
 use mathlib.Core.Path.{_≡_, refl, sym, ap, _∙_}
 use mathlib.Core.List.{List, [], _∷_, _++_}

@@ -1,4 +1,4 @@
--- The draws of records. Assumes nothing.
+-- The draws of records.
 use Prim.Native.Nat.{ℕ, zero, suc, _+_, _*_, _-_, _≤_}
 use mathlib.Core.Path.{_≡_, refl}
 use native.Mathlib.Nat.{mul-le-mul-right}

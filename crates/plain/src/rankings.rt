@@ -4,9 +4,9 @@ ghost use mathlib.Core.Path.{_≡_};
 ghost use Prim.Native.Nat.{_+_, _*_, _≤_, _<_};
 ghost use lib.ListN.{length, take};
 ghost use Rattle.rules.specs.Bytes.{part};
-ghost use Rattle.rules.specs.Answers.{padded};
+ghost use Rattle.rules.specs.Answers.{withZeros};
 ghost use Rattle.rules.specs.Count.{member, isRanking, stillIn, firstIn};
-ghost use Rattle.jobs.specs.Job.{Job, standing, placeOf};
+ghost use Rattle.jobs.specs.Job.{Job, remaining, rowOf};
 ghost use Rattle.jobs.specs.Write.{firstBad};
 ghost use Rattle.count.specs.State.{listOf, Listed};
 
@@ -81,7 +81,7 @@ pub fn first_in(rankings: &[u8], at: usize, n: usize, gone: Gone) -> usize
 // Those on it that have not gone out, in order, and zeros after them.
 pub fn still_in(rankings: &[u8], at: usize, n: usize, gone: Gone) -> [u8; 8]
     requires { ⌜ (n ≤ 8) × (at + n ≤ length (now rankings)) × Listed gone ⌝ }
-    ensures { λ r. ⌜ r ≡ padded (standing (listOf gone) (part (now (rankings .entry)) at n)) ⌝ }
+    ensures { λ r. ⌜ r ≡ withZeros (remaining (listOf gone) (part (now (rankings .entry)) at n)) ⌝ }
 {
     let mut list = [0u8; 8];
     let mut found = 0;
@@ -96,9 +96,9 @@ pub fn still_in(rankings: &[u8], at: usize, n: usize, gone: Gone) -> [u8; 8]
 }
 
 // The place of a process among the first of a list.
-pub fn place_of(list: [u8; 8], size: usize, a: u8) -> usize
+pub fn row_of(list: [u8; 8], size: usize, a: u8) -> usize
     requires { ⌜ size ≤ 8 ⌝ }
-    ensures { λ r. ⌜ r ≡ placeOf a (take size list) ⌝ }
+    ensures { λ r. ⌜ r ≡ rowOf a (take size list) ⌝ }
 {
     let mut i = 0;
     while i < size {

@@ -1,11 +1,11 @@
--- A branch grows by a statement. Assumes nothing.
+-- A branch grows by a statement.
 use Prim.Native.Nat.{ℕ, _+_, _*_, _-_, _≤_, _<_}
 use mathlib.Core.Path.{_≡_, refl, sym, _∙_}
 use mathlib.Core.List.{List, _++_, append-assoc, append-nil}
 use native.Mathlib.Omega.{arith}
 use lib.ListN.{length, length-append, length-take, length-drop}
 use borrow.Rule.Slice.PartMut.{midOf, putMid}
-use Rattle.numbers.specs.Below.{blocks}
+use Rattle.numbers.specs.Below.{concatBelow}
 use Rattle.sha256.specs.declared.Hasher.{Hasher}
 use Rattle.sha256.specs.Feed.{Fed}
 use Rattle.rules.specs.Bytes.{bytes4, part}
@@ -27,7 +27,7 @@ length-false g s e r = refl
 
 module _ (e : ℕ) (t : ℕ → List ℕ) (r : ℕ → ℕ) where
   pub branch-none : (o : List ℕ) → written (bytes4 e) o ≡ written (branchBytes e 0 t r) o
-  unfolding branchBytes blocks
+  unfolding branchBytes concatBelow
   branch-none o = refl
 
   pub branch-more : ((i : ℕ) → length (t i) ≡ 8) → (i a : ℕ) (o l x : List ℕ) {h k : Hasher} → a ≡ 4 + 12 * i → l ≡ written (branchBytes e i t r) o →
@@ -51,9 +51,9 @@ module _ (e : ℕ) (r : ℕ → ℕ) (o : List ℕ) where
       ∙ rw (blocks-more (λ i. t i ++ bytes4 (r i)) i, append-assoc, append-assoc)
 
 -- what is fed grows with it
-pub fed-more : (t : ℕ → List ℕ) (i : ℕ) (m : List ℕ) (k : Hasher) → Fed k ((m ++ blocks i t) ++ t i) → Fed k (m ++ blocks (i + 1) t)
+pub fed-more : (t : ℕ → List ℕ) (i : ℕ) (m : List ℕ) (k : Hasher) → Fed k ((m ++ concatBelow i t) ++ t i) → Fed k (m ++ concatBelow (i + 1) t)
 fed-more t i m k f = rw (blocks-more t i, ← append-assoc) f
 
-pub fed-none : (t : ℕ → List ℕ) (m : List ℕ) (k : Hasher) → Fed k m → Fed k (m ++ blocks 0 t)
-unfolding blocks
+pub fed-none : (t : ℕ → List ℕ) (m : List ℕ) (k : Hasher) → Fed k m → Fed k (m ++ concatBelow 0 t)
+unfolding concatBelow
 fed-none t m k f = rw append-nil f

@@ -1,4 +1,4 @@
--- Where a branch's draws stand. Assumes nothing.
+-- Where a branch's draws stand.
 use Prim.Native.Nat.{ℕ, _+_, _*_, _-_, _≤_, _<_}
 use mathlib.Core.Path.{_≡_, sym, subst, _∙_}
 use mathlib.Core.Bool.{Bool, cond}
@@ -16,12 +16,12 @@ use Rattle.sha256.specs.declared.Hasher.{Hasher}
 use Rattle.group.specs.Elements.{Parameters}
 use Rattle.rules.specs.Proofs.{Statement}
 use Rattle.proving.specs.declared.Plan.{Plan}
-use Rattle.proving.specs.Plans.{planDraws, Drawn, againstOf, Branched, heldE, heldTs, heldRs, trueTs, trueRs, falseTs, falseRs}
+use Rattle.proving.specs.Plans.{planDraws, PlanDraws, falseComplements, Branched, draftChallenge, draftCommitments, draftResponses, trueTs, trueRs, falseTs, falseRs}
 
 below : (l k b : ℕ) → l ≤ k → (l ≡ k → ⊥) → k < b → l + 2 ≤ b
 below l k b h n m = ⊎-elim (λ (e : l ≡ k). absurd (n e)) (λ (s : l < k). omega arith) (eq-or-lt-of-le h)
 
-module _ (q : ℕ) (plan : Plan) (draws : List ℕ) (D : Drawn q plan draws) (l : ℕ) (h : l < plan .branches) where
+module _ (q : ℕ) (plan : Plan) (draws : List ℕ) (D : PlanDraws q plan draws) (l : ℕ) (h : l < plan .branches) where
   up : (l + 1) * (1 + plan .statements) ≤ plan .branches * (1 + plan .statements)
   up = mul-le-mul-right (1 + plan .statements) (omega arith)
 
@@ -46,20 +46,20 @@ module _ (q : ℕ) (plan : Plan) (draws : List ℕ) (D : Drawn q plan draws) (l 
   false-low n = D .below (planDraws plan l) (past n .1)
 
   -- one more branch's distance to q
-  pub against-true : (sum : ℕ) → sum ≡ againstOf q plan draws l → l ≡ plan .known → sum ≡ againstOf q plan draws (l + 1)
-  unfolding againstOf sumBelow
+  pub against-true : (sum : ℕ) → sum ≡ falseComplements q plan draws l → l ≡ plan .known → sum ≡ falseComplements q plan draws (l + 1)
+  unfolding falseComplements sumBelow
   against-true sum e k = e ∙ rw (add-one, eq-eqb l (plan .known) k) (omega arith)
 
-  pub against-false : (sum : ℕ) → sum ≡ againstOf q plan draws l → (l ≡ plan .known → ⊥) →
-      sum + (q - getD draws (planDraws plan l) 0) ≡ againstOf q plan draws (l + 1)
-  unfolding againstOf sumBelow
+  pub against-false : (sum : ℕ) → sum ≡ falseComplements q plan draws l → (l ≡ plan .known → ⊥) →
+      sum + (q - getD draws (planDraws plan l) 0) ≡ falseComplements q plan draws (l + 1)
+  unfolding falseComplements sumBelow
   against-false sum e k = rw (add-one, ne-eqb l (plan .known) k, e)
 
 -- what is held of a branch, by whether it is the known one
 module _ (g : Parameters) (claim : ℕ → ℕ → Statement) (plan : Plan) (draws : List ℕ) (l at S : ℕ) (o o' : List ℕ) (h k : Hasher) (a : at ≡ planDraws plan l) where
   pub held-true : l ≡ plan .known → Branched 0 S (trueTs g draws at) (trueRs draws at) o o' h k →
-      Branched (heldE plan draws l) S (heldTs g claim plan draws l) (heldRs plan draws l) o o' h k
-  unfolding heldE heldTs heldRs
+      Branched (draftChallenge plan draws l) S (draftCommitments g claim plan draws l) (draftResponses plan draws l) o o' h k
+  unfolding draftChallenge draftCommitments draftResponses
   held-true e b =
       subst (λ (z : Bool).
       Branched (cond z 0 (getD draws (planDraws plan l) 0)) S (λ i. cond z (trueTs g draws (planDraws plan l) i) (falseTs g (claim l) draws (planDraws plan l) i))
@@ -67,8 +67,8 @@ module _ (g : Parameters) (claim : ℕ → ℕ → Statement) (plan : Plan) (dra
       (sym (eq-eqb l (plan .known) e)) (rw a at b)
 
   pub held-false : (l ≡ plan .known → ⊥) → Branched (getD draws at 0) S (falseTs g (claim l) draws at) (falseRs draws at) o o' h k →
-      Branched (heldE plan draws l) S (heldTs g claim plan draws l) (heldRs plan draws l) o o' h k
-  unfolding heldE heldTs heldRs
+      Branched (draftChallenge plan draws l) S (draftCommitments g claim plan draws l) (draftResponses plan draws l) o o' h k
+  unfolding draftChallenge draftCommitments draftResponses
   held-false e b =
       subst (λ (z : Bool).
       Branched (cond z 0 (getD draws (planDraws plan l) 0)) S (λ i. cond z (trueTs g draws (planDraws plan l) i) (falseTs g (claim l) draws (planDraws plan l) i))

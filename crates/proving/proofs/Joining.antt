@@ -1,4 +1,4 @@
--- The proof of the rules, from the branches that are held and the known branch's answers. Assumes nothing.
+-- The proof of the rules, from the branches that are held and the known branch's answers.
 use Prim.Native.Nat.{ℕ, zero, suc, _+_, _*_, _-_, _%_, _≤_, _<_}
 use mathlib.Core.Path.{_≡_, refl, sym, ap, ap₂, _∙_}
 use mathlib.Core.Bool.{true}
@@ -11,12 +11,12 @@ use borrow.Rule.Slice.PartMut.{midOf, putMid}
 use lib.Dec.{eqb}
 use lib.ListN.{length}
 use lib.Seq.{drop-at, take-at}
-use Rattle.numbers.specs.Below.{blocks}
+use Rattle.numbers.specs.Below.{concatBelow}
 use Rattle.numbers.proofs.Blocks.{blocks-same, length-blocks}
 use Rattle.numbers.proofs.Tests.{by-cases}
 use Rattle.sha256.specs.declared.Hasher.{Hasher}
 use Rattle.sha256.specs.Message.{sha256}
-use Rattle.rules.specs.Bytes.{bytes4, long, part}
+use Rattle.rules.specs.Bytes.{bytes4, number8, part}
 use Rattle.group.specs.Elements.{Parameters}
 use Rattle.group.specs.declared.Exponent.{Exponent}
 use Rattle.rules.specs.Proofs.{Statement}
@@ -24,13 +24,13 @@ use Rattle.jobs.specs.Prover.{Prover, committed, commitment, challengeOf, respo
 use Rattle.output.specs.Written.{written}
 use Rattle.output.proofs.Laws.{more, patch, rest-from, blocks-more}
 use Rattle.proving.specs.declared.Plan.{Plan}
-use Rattle.proving.specs.Plans.{Branched, heldE, heldTs, heldRs, heldBranch, againstOf, planDraws, truePair, falsePair, answers, proverOf, proofOf}
+use Rattle.proving.specs.Plans.{Branched, draftChallenge, draftCommitments, draftResponses, draftBranch, falseComplements, planDraws, truePair, falsePair, answers, proverOf, proofOf}
 use Rattle.proving.proofs.Branches.{length-true, length-false}
 use Rattle.jobs.proofs.Lengths.{length-branch}
 
 -- a run of blocks around its k-th
-blocks-around : (f : ℕ → List ℕ) (k d : ℕ) → blocks (k + 1 + d) f ≡ blocks k f ++ (f k ++ blocks d (λ j. f (k + 1 + j)))
-unfolding blocks
+blocks-around : (f : ℕ → List ℕ) (k d : ℕ) → concatBelow (k + 1 + d) f ≡ concatBelow k f ++ (f k ++ concatBelow d (λ j. f (k + 1 + j)))
+unfolding concatBelow
 blocks-around f k zero = rw (add-zero, add-one, append-nil)
 blocks-around f k (suc d) = rw (add-suc, blocks-around f k d, append-assoc, append-assoc)
 
@@ -46,7 +46,7 @@ branch-part : (e d : ℕ) (t : ℕ → List ℕ) (r : ℕ → ℕ) (y : List ℕ
 unfolding branchBytes
 branch-part e d t r y wide i =
     let f : ℕ → List ℕ = λ i. t i ++ bytes4 (r i) in
-    let z : List ℕ = bytes4 (r i) ++ (blocks d (λ j. f (i + 1 + j)) ++ y) in
+    let z : List ℕ = bytes4 (r i) ++ (concatBelow d (λ j. f (i + 1 + j)) ++ y) in
     let s : branchBytes e (i + 1 + d) t r ++ y ≡ branchBytes e i t r ++ (t i ++ z) = rw (blocks-around f i d) (simp append-assoc) in
     rw (s, drop-at (branchBytes e i t r) (t i ++ z) (4 + 12 * i) (length-branch e i t r (λ j h. wide j))) (take-at (t i) z 8 (wide i))
 
@@ -57,29 +57,29 @@ in-proof plan l h = mul-le-mul-right (4 + 12 * plan .statements) (omega arith)
 -- the branches as they are held
 module _ (g : Parameters) (claim : ℕ → ℕ → Statement) (plan : Plan) (draws : List ℕ) where
   abbrev held : ℕ → List ℕ
-  held = heldBranch g claim plan draws
+  held = draftBranch g claim plan draws
 
-  length-ts : (l i : ℕ) → length (heldTs g claim plan draws l i) ≡ 8
-  unfolding heldTs
+  length-ts : (l i : ℕ) → length (draftCommitments g claim plan draws l i) ≡ 8
+  unfolding draftCommitments
   length-ts l i = by-cases (eqb l (plan .known)) (λ e. rw e (length-true _ _)) (λ e. rw e (length-false _ _ _ _))
 
   pub length-held : (l : ℕ) → length (held l) ≡ 4 + 12 * plan .statements
-  unfolding heldBranch
+  unfolding draftBranch
   length-held l = length-branch _ (plan .statements) _ _ (λ i h. length-ts l i)
 
-  held-part : (l i : ℕ) (y : List ℕ) → i < plan .statements → part (held l ++ y) (4 + 12 * i) 8 ≡ heldTs g claim plan draws l i
-  unfolding heldBranch
+  held-part : (l i : ℕ) (y : List ℕ) → i < plan .statements → part (held l ++ y) (4 + 12 * i) 8 ≡ draftCommitments g claim plan draws l i
+  unfolding draftBranch
   held-part l i y h =
       let n : i + 1 + (plan .statements - i - 1) ≡ plan .statements = omega arith in
-      rw n at (branch-part (heldE plan draws l) (plan .statements - i - 1) (heldTs g claim plan draws l) (heldRs plan draws l) y (length-ts l) i)
+      rw n at (branch-part (draftChallenge plan draws l) (plan .statements - i - 1) (draftCommitments g claim plan draws l) (draftResponses plan draws l) y (length-ts l) i)
 
   -- one more branch is held
-  pub held-more : (l a : ℕ) (o out x : List ℕ) (h k : Hasher) → a ≡ l * (4 + 12 * plan .statements) → out ≡ written (blocks l held) o →
-      Branched (heldE plan draws l) (plan .statements) (heldTs g claim plan draws l) (heldRs plan draws l) (midOf a (length out - a) out) x h k →
-      putMid a (length out - a) out x ≡ written (blocks (l + 1) held) o
-  unfolding heldBranch
+  pub held-more : (l a : ℕ) (o out x : List ℕ) (h k : Hasher) → a ≡ l * (4 + 12 * plan .statements) → out ≡ written (concatBelow l held) o →
+      Branched (draftChallenge plan draws l) (plan .statements) (draftCommitments g claim plan draws l) (draftResponses plan draws l) (midOf a (length out - a) out) x h k →
+      putMid a (length out - a) out x ≡ written (concatBelow (l + 1) held) o
+  unfolding draftBranch
   held-more l a o out x h k ea eo b =
-      more (blocks l held) (held l) o out x a (length-blocks l (4 + 12 * plan .statements) held (λ l h. length-held l) ∙ sym ea) eo (b .wrote)
+      more (concatBelow l held) (held l) o out x a (length-blocks l (4 + 12 * plan .statements) held (λ l h. length-held l) ∙ sym ea) eo (b .wrote)
       ∙ rw (blocks-more held l)
 
 module _ (label : List ℕ) (g : Parameters) (claim : ℕ → ℕ → Statement) (plan : Plan) (witness : List Exponent) (draws : List ℕ) where
@@ -104,12 +104,12 @@ module _ (label : List ℕ) (g : Parameters) (claim : ℕ → ℕ → Statement)
   final : ℕ → List ℕ
   final l = branchBytes (es l) (plan .statements) (ts l) (rs l)
 
-  proof-is : proofOf label g claim plan witness draws ≡ blocks (plan .branches) final
+  proof-is : proofOf label g claim plan witness draws ≡ concatBelow (plan .branches) final
   unfolding proofBytes final branchBytes
   proof-is = refl
 
-  same-ts : (l i : ℕ) → ts l i ≡ heldTs g claim plan draws l i
-  unfolding commitment heldTs truePair falsePair
+  same-ts : (l i : ℕ) → ts l i ≡ draftCommitments g claim plan draws l i
+  unfolding commitment draftCommitments truePair falsePair
   same-ts l i =
       by-cases (eqb l (plan .known))
       (λ e. let k : l ≡ plan .known = eqb-true l (plan .known) e in rw (e, k))
@@ -121,23 +121,23 @@ module _ (label : List ℕ) (g : Parameters) (claim : ℕ → ℕ → Statement)
 
   -- a branch other than the known one is as it was held
   same-branch : (l : ℕ) → (l ≡ plan .known → ⊥) → first l ≡ final l
-  unfolding heldBranch final heldE heldRs
+  unfolding draftBranch final draftChallenge draftResponses
   same-branch l n =
       branch-same _ _ (plan .statements) _ _ _ _ (rw (ne-eqb l (plan .known) n)) (λ i h. sym (same-ts l i)) (λ i h. rw (ne-eqb l (plan .known) n))
 
   -- the challenge that is left for the known branch
   pub challenge-is : (e whole sum : ℕ) (digest : List ℕ) →
-      digest ≡ sha256 (label ++ blocks (plan .branches) (λ l. blocks (plan .statements) (heldTs g claim plan draws l))) →
-      whole ≡ long digest 0 % g .q → sum ≡ againstOf (g .q) plan draws (plan .branches) → e ≡ (whole + sum) % g .q → e ≡ c
-  unfolding trueChallenge wholeChallenge againstOf
+      digest ≡ sha256 (label ++ concatBelow (plan .branches) (λ l. concatBelow (plan .statements) (draftCommitments g claim plan draws l))) →
+      whole ≡ number8 digest 0 % g .q → sum ≡ falseComplements (g .q) plan draws (plan .branches) → e ≡ (whole + sum) % g .q → e ≡ c
+  unfolding trueChallenge wholeChallenge falseComplements
   challenge-is e whole sum digest ed ew ea ee =
-      let s : blocks (plan .branches) (λ l. blocks (plan .statements) (ts l)) ≡ blocks (plan .branches) (λ l. blocks (plan .statements) (heldTs g claim plan draws l)) =
+      let s : concatBelow (plan .branches) (λ l. concatBelow (plan .statements) (ts l)) ≡ concatBelow (plan .branches) (λ l. concatBelow (plan .statements) (draftCommitments g claim plan draws l)) =
       blocks-same (plan .branches) _ _ (λ l k. blocks-same (plan .statements) _ _ (λ i m. same-ts l i)) in
       ee ∙ rw (ew, ed, ea, s)
 
   -- the known branch with its answers
   known-branch : (e at : ℕ) (t : ℕ → List ℕ) → e ≡ c → at ≡ planDraws plan (plan .known) →
-      ((i : ℕ) → i < plan .statements → t i ≡ heldTs g claim plan draws (plan .known) i) →
+      ((i : ℕ) → i < plan .statements → t i ≡ draftCommitments g claim plan draws (plan .known) i) →
       branchBytes e (plan .statements) t (answers (g .q) e witness draws at) ≡ final (plan .known)
   unfolding final
   known-branch e at t h a s =
@@ -149,20 +149,20 @@ module _ (label : List ℕ) (g : Parameters) (claim : ℕ → ℕ → Statement)
     rest : ℕ
     rest = plan .branches - plan .known - 1
 
-    around : (f : ℕ → List ℕ) → blocks (plan .branches) f ≡ blocks (plan .known) f ++ (f (plan .known) ++ blocks rest (λ j. f (plan .known + 1 + j)))
+    around : (f : ℕ → List ℕ) → concatBelow (plan .branches) f ≡ concatBelow (plan .known) f ++ (f (plan .known) ++ concatBelow rest (λ j. f (plan .known + 1 + j)))
     unfolding rest
     around f =
         let n : plan .branches ≡ plan .known + 1 + rest = omega arith in
-        ap (λ (m : ℕ). blocks m f) n ∙ blocks-around f (plan .known) rest
+        ap (λ (m : ℕ). concatBelow m f) n ∙ blocks-around f (plan .known) rest
 
     pub joined : (o l r : List ℕ) (a e at : ℕ) → a ≡ plan .known * (4 + 12 * plan .statements) → e ≡ c → at ≡ planDraws plan (plan .known) →
-        l ≡ written (blocks (plan .branches) first) o →
+        l ≡ written (concatBelow (plan .branches) first) o →
         r ≡ written (branchBytes e (plan .statements) (λ i. part (midOf a (length l - a) l) (4 + 12 * i) 8) (answers (g .q) e witness draws at)) (midOf a (length l - a) l) →
         putMid a (length l - a) l r ≡ written (proofOf label g claim plan witness draws) o
     joined o l r a e at ea ee eat el er =
-        let x : List ℕ = blocks (plan .known) first in
+        let x : List ℕ = concatBelow (plan .known) first in
         let old : List ℕ = first (plan .known) in
-        let y : List ℕ = blocks rest (λ j. first (plan .known + 1 + j)) in
+        let y : List ℕ = concatBelow rest (λ j. first (plan .known + 1 + j)) in
         let n : length x ≡ a = length-blocks (plan .known) (4 + 12 * plan .statements) first (λ l h. length-held g claim plan draws l) ∙ sym ea in
         let el' : l ≡ written (x ++ (old ++ y)) o = el ∙ ap (λ (w : List ℕ). written w o) (around first) in
         let new : branchBytes e (plan .statements) (λ i. part (midOf a (length l - a) l) (4 + 12 * i) 8) (answers (g .q) e witness draws at) ≡ final (plan .known) =

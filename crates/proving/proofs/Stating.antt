@@ -1,4 +1,4 @@
--- A statement in other words. Assumes nothing.
+-- A statement in other words.
 use Prim.Native.Nat.{ℕ}
 use mathlib.Core.Path.{_≡_}
 use mathlib.Core.List.{List, _++_}

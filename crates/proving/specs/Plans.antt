@@ -5,7 +5,7 @@ use mathlib.Core.Bool.{cond}
 use mathlib.Core.List.{List, _++_}
 use lib.Dec.{eqb}
 use lib.ListN.{length, getD}
-use Rattle.numbers.specs.Below.{sumBelow, blocks}
+use Rattle.numbers.specs.Below.{sumBelow, concatBelow}
 use Rattle.group.specs.Arithmetic.{powMod}
 use Rattle.rules.specs.Bytes.{bytes4}
 use Rattle.group.specs.Elements.{Parameters}
@@ -49,7 +49,7 @@ trueRs draws at i = getD draws (at + i) 0
 -- a branch was written, and its commitments fed
 pub record Branched (e S : ℕ) (t : ℕ → List ℕ) (r : ℕ → ℕ) (before after : List ℕ) (h k : Hasher) : Type 0 where
   pub wrote : after ≡ written (branchBytes e S t r) before
-  pub fed : (m : List ℕ) → Fed h m → Fed k (m ++ blocks S t)
+  pub fed : (m : List ℕ) → Fed h m → Fed k (m ++ concatBelow S t)
 
 -- the i-th witness, as a number
 abbrev pub witnessAt : (witness : List Exponent) → ℕ → ℕ
@@ -64,7 +64,7 @@ abbrev pub planDraws : Plan → ℕ → ℕ
 planDraws plan l = branchDraws (plan .from) (plan .statements) (plan .known) l
 
 -- the plan's draws are there, and those that it uses are below q
-pub record Drawn (q : ℕ) (plan : Plan) (draws : List ℕ) : Type 0 where
+pub record PlanDraws (q : ℕ) (plan : Plan) (draws : List ℕ) : Type 0 where
   pub positive : 0 < q
   pub low : q < 2 ^ 32
   pub few : plan .branches ≤ 8
@@ -76,29 +76,29 @@ pub record Drawn (q : ℕ) (plan : Plan) (draws : List ℕ) : Type 0 where
 
 -- and the pairs that the claim names stand on the page
 pub record Planned (g : Parameters) (page inverses : List ℕ) (n : ℕ) (claim : Claim) (plan : Plan) (draws : List ℕ) : Type 0 where
-  pub drawn : Drawn (g .q) plan draws
+  pub drawn : PlanDraws (g .q) plan draws
   pub ready : (l i : ℕ) → l < plan .branches → i < plan .statements → (l ≡ plan .known → ⊥) → Within page inverses g n claim l i
 
 -- a branch before the known one's challenge is known: 0 stands for it, and the nonces for the responses
-unfoldable pub heldE : Plan → (draws : List ℕ) (l : ℕ) → ℕ
-heldE plan draws l = cond (eqb l (plan .known)) 0 (getD draws (planDraws plan l) 0)
+unfoldable pub draftChallenge : Plan → (draws : List ℕ) (l : ℕ) → ℕ
+draftChallenge plan draws l = cond (eqb l (plan .known)) 0 (getD draws (planDraws plan l) 0)
 
-unfoldable pub heldTs : Parameters → (ℕ → ℕ → Statement) → Plan → (draws : List ℕ) (l i : ℕ) → List ℕ
-heldTs g claim plan draws l i = cond (eqb l (plan .known)) (trueTs g draws (planDraws plan l) i) (falseTs g (claim l) draws (planDraws plan l) i)
+unfoldable pub draftCommitments : Parameters → (ℕ → ℕ → Statement) → Plan → (draws : List ℕ) (l i : ℕ) → List ℕ
+draftCommitments g claim plan draws l i = cond (eqb l (plan .known)) (trueTs g draws (planDraws plan l) i) (falseTs g (claim l) draws (planDraws plan l) i)
 
-unfoldable pub heldRs : Plan → (draws : List ℕ) (l i : ℕ) → ℕ
-heldRs plan draws l i = cond (eqb l (plan .known)) (trueRs draws (planDraws plan l) i) (falseRs draws (planDraws plan l) i)
+unfoldable pub draftResponses : Plan → (draws : List ℕ) (l i : ℕ) → ℕ
+draftResponses plan draws l i = cond (eqb l (plan .known)) (trueRs draws (planDraws plan l) i) (falseRs draws (planDraws plan l) i)
 
-unfoldable pub heldBranch : Parameters → (ℕ → ℕ → Statement) → Plan → (draws : List ℕ) (l : ℕ) → List ℕ
-heldBranch g claim plan draws l = branchBytes (heldE plan draws l) (plan .statements) (heldTs g claim plan draws l) (heldRs plan draws l)
+unfoldable pub draftBranch : Parameters → (ℕ → ℕ → Statement) → Plan → (draws : List ℕ) (l : ℕ) → List ℕ
+draftBranch g claim plan draws l = branchBytes (draftChallenge plan draws l) (plan .statements) (draftCommitments g claim plan draws l) (draftResponses plan draws l)
 
 -- every branch was so written, and its commitments fed after the label
 pub record Committed (label : List ℕ) (g : Parameters) (claim : ℕ → ℕ → Statement) (plan : Plan) (draws before after : List ℕ) (k : Hasher) : Type 0 where
-  pub wrote : after ≡ written (blocks (plan .branches) (heldBranch g claim plan draws)) before
-  pub fed : Fed k (label ++ blocks (plan .branches) (λ l. blocks (plan .statements) (heldTs g claim plan draws l)))
+  pub wrote : after ≡ written (concatBelow (plan .branches) (draftBranch g claim plan draws)) before
+  pub fed : Fed k (label ++ concatBelow (plan .branches) (λ l. concatBelow (plan .statements) (draftCommitments g claim plan draws l)))
 
-unfoldable pub againstOf : (q : ℕ) → Plan → (draws : List ℕ) → ℕ → ℕ
-againstOf q plan draws n = sumBelow n (λ l. cond (eqb l (plan .known)) 0 (q - getD draws (planDraws plan l) 0))
+unfoldable pub falseComplements : (q : ℕ) → Plan → (draws : List ℕ) → ℕ → ℕ
+falseComplements q plan draws n = sumBelow n (λ l. cond (eqb l (plan .known)) 0 (q - getD draws (planDraws plan l) 0))
 
 -- what the rules say of the maker of a proof under a plan
 abbrev pub proverOf : (ℕ → ℕ → Statement) → Plan → (witness : List Exponent) (draws : List ℕ) → Prover
@@ -117,7 +117,7 @@ abbrev pub proofOf : (label : List ℕ) → Parameters → (ℕ → ℕ → Stat
 proofOf label g claim plan witness draws = proofBytes g (proverOf claim plan witness draws) sha256 label
 
 -- so many draws from a place on are there, and below q
-pub record Spread (q : ℕ) (draws : List ℕ) (from count : ℕ) : Type 0 where
+pub record DrawsBelow (q : ℕ) (draws : List ℕ) (from count : ℕ) : Type 0 where
   pub positive : 0 < q
   pub low : q < 2 ^ 32
   pub near : from + count < 2 ^ 40

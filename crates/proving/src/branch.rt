@@ -16,7 +16,7 @@ ghost use Rattle.statements.specs.Values.{Ready};
 ghost use Rattle.statements.specs.Claims.{claimOf, Within};
 ghost use Rattle.output.specs.Written.{written};
 ghost use Rattle.jobs.specs.Prover.{branchBytes};
-ghost use Rattle.proving.specs.Plans.{Branched, answers, planDraws, Planned, heldE, heldTs, heldRs, falseTs, falseRs, trueTs, trueRs};
+ghost use Rattle.proving.specs.Plans.{Branched, answers, planDraws, Planned, draftChallenge, draftCommitments, draftResponses, falseTs, falseRs, trueTs, trueRs};
 
 // Where a branch's draws start.
 pub fn branch_draws(plan: Plan, l: usize) -> usize
@@ -51,7 +51,7 @@ fn false_branch(
 {
     let group = g.group;
     let e = draws[at];
-    output::put_word(out, e);
+    output::put_number4(out, e);
     let mut k = h;
     for i in 0..statements {
         let s = claims::claimed(page, inverses, g, n, claim, l, i);
@@ -75,7 +75,7 @@ fn true_branch(
     requires { ⌜ (0 < g .p) × (statements < 100) × (4 + 12 * statements ≤ length (now out)) × (at + statements ≤ length (now draws)) ⌝ }
     ensures { λ k. ⌜ Branched 0 statements (trueTs (parametersOf g) (now (draws .entry)) at) (trueRs (now (draws .entry)) at) (now (out .entry)) (now (out .exit)) h k ⌝ }
 {
-    output::put_word(out, 0);
+    output::put_number4(out, 0);
     let mut k = h;
     for i in 0..statements {
         let place = 4 + 12 * i;
@@ -101,7 +101,7 @@ pub fn commit_branch(
 ) -> Hasher
     requires { ⌜ Ready g × Planned (parametersOf (g .group)) (now page) (now inverses) n claim plan (now draws) ⌝ }
     requires { ⌜ (l < plan .branches) × (4 + 12 * plan .statements ≤ length (now out)) ⌝ }
-    ensures { λ k. ⌜ Branched (heldE plan (now (draws .entry)) l) (plan .statements) (heldTs (parametersOf (g .group)) (claimOf (now (page .entry)) (parametersOf (g .group)) n claim) plan (now (draws .entry)) l) (heldRs plan (now (draws .entry)) l) (now (out .entry)) (now (out .exit)) h k ⌝ }
+    ensures { λ k. ⌜ Branched (draftChallenge plan (now (draws .entry)) l) (plan .statements) (draftCommitments (parametersOf (g .group)) (claimOf (now (page .entry)) (parametersOf (g .group)) n claim) plan (now (draws .entry)) l) (draftResponses plan (now (draws .entry)) l) (now (out .entry)) (now (out .exit)) h k ⌝ }
 {
     let group = g.group;
     let at = branch_draws(plan, l);
@@ -146,10 +146,10 @@ pub fn answer(
     requires { ⌜ at + statements ≤ length (now draws) ⌝ }
     ensures { λ _. ⌜ now (out .exit) ≡ written (branchBytes (e .0) statements (λ i. part (now (out .entry)) (4 + 12 * i) 8) (answers q (e .0) witness (now (draws .entry)) at)) (now (out .entry)) ⌝ }
 {
-    output::put_word(out, e.0);
+    output::put_number4(out, e.0);
     for i in 0..statements {
         let place = 12 + 12 * i;
         let r = response(q, e, Exponent(draws[at + i]), witness[i]);
-        output::put_word(&mut out[place..], r.0);
+        output::put_number4(&mut out[place..], r.0);
     }
 }

@@ -11,7 +11,7 @@ ghost use Rattle.group.specs.Elements.{parametersOf};
 ghost use Rattle.statements.specs.Values.{Ready};
 ghost use Rattle.statements.specs.Claims.{claimOf};
 ghost use Rattle.output.specs.Written.{written};
-ghost use Rattle.proving.specs.Plans.{Drawn, Planned, Committed, againstOf, proofOf};
+ghost use Rattle.proving.specs.Plans.{PlanDraws, Planned, Committed, falseComplements, proofOf};
 
 mod branch;
 mod statement;
@@ -25,9 +25,9 @@ pub struct Plan {
 }
 
 // What the drawn challenges take from the whole one: the sum of their distances to q.
-fn against(q: u32, plan: Plan, draws: &[u32]) -> u64
-    requires { ⌜ Drawn q plan (now draws) ⌝ }
-    ensures { λ r. ⌜ (r ≡ againstOf q plan (now (draws .entry)) (plan .branches)) × (r < 2 ^ 40) ⌝ }
+fn false_complements(q: u32, plan: Plan, draws: &[u32]) -> u64
+    requires { ⌜ PlanDraws q plan (now draws) ⌝ }
+    ensures { λ r. ⌜ (r ≡ falseComplements q plan (now (draws .entry)) (plan .branches)) × (r < 2 ^ 40) ⌝ }
 {
     let branches = plan.branches;
     let known = plan.known;
@@ -102,7 +102,7 @@ pub fn make(
     let known = plan.known;
     let q = g.group.q;
     let h = commit(out, label, g, page, inverses, n, claim, plan, draws);
-    let sum = against(q, plan, draws);
+    let sum = false_complements(q, plan, draws);
     let digest = h.finish();
     let whole = fields::challenge(&digest, q);
     let e = group::reduce_exp((whole.0 as u64) + sum, q);

@@ -33,9 +33,9 @@ fn put_statement(out: &mut [u8], h: Hasher, t1: Element, t2: Element, r: Exponen
     requires { ⌜ 12 ≤ length (now out) ⌝ }
     ensures { λ k. ⌜ Stated (bytes4 (t1 .0) ++ bytes4 (t2 .0)) (r .0) (now (out .entry)) (now (out .exit)) h k ⌝ }
 {
-    output::put_word(out, t1.0);
-    output::put_word(&mut out[4..], t2.0);
-    output::put_word(&mut out[8..], r.0);
+    output::put_number4(out, t1.0);
+    output::put_number4(&mut out[4..], t2.0);
+    output::put_number4(&mut out[8..], r.0);
     h.update(&out[..8])
 }
 

@@ -1,4 +1,4 @@
--- The tests of the BA and SH records, at the place where the record starts. Assumes nothing.
+-- The tests of the BA and SH records, at the place where the record starts.
 use Prim.Native.Nat.{ℕ, suc, _+_, _*_, _-_, _/_, _%_, _<_}
 use mathlib.Core.Path.{_≡_, sym, ap, _∙_}
 use mathlib.Core.Bool.{Bool, _&&_, and-assoc}
@@ -9,7 +9,7 @@ use Rattle.numbers.specs.Below.{allBelow}
 use Rattle.numbers.proofs.Tests.{all-grid, all-same, all-add}
 use Rattle.sha256.specs.Message.{sha256}
 use Rattle.group.specs.Elements.{parametersOf}
-use Rattle.rules.specs.Bytes.{half}
+use Rattle.rules.specs.Bytes.{number2}
 use Rattle.rules.specs.Records.{BA, SH, recordAt, recordLength, ballotLength, shiftLength}
 use Rattle.rules.specs.Proofs.{proofFields}
 use Rattle.rules.specs.Claims.{matrixAt, entryClaim, rowClaim, columnClaim}
@@ -92,7 +92,7 @@ module _ (s : List ℕ) (h : Head) (k at : ℕ) (e : at ≡ recordAt (h .n) (h .
   proofs-are = rw (← e, entries-are, and-assoc, lines-are)
 
   pub ballot-table : (a : ℕ) →
-      FiveTests s at (ballotLength (h .n)) BA (half s (at + 2)) (k + 1) (ballotFieldsAt s (h .n) (h .setup .group .p) (h .setup .group .q) at) (ballotProofsAt s h at)
+      FiveTests s at (ballotLength (h .n)) BA (number2 s (at + 2)) (k + 1) (ballotFieldsAt s (h .n) (h .setup .group .p) (h .setup .group .q) at) (ballotProofsAt s h at)
       (recordFault sha256 s (headOf s h) a 0 k)
   unfolding recordFault recordLength
   ballot-table a = record { table = rw (fields-are, proofs-are, ← e) }
@@ -108,7 +108,7 @@ module _ (s : List ℕ) (h : Head) (m k a at before rows : ℕ)
   shift-proof-is = rw (← e, ← eb, ← er)
 
   pub shift-table :
-      FiveTests s at (shiftLength (h .n) rows) SH (half s (at + 2)) (k + 1) (shiftFieldsAt s (h .n) (h .setup .group .p) (h .setup .group .q) at rows)
+      FiveTests s at (shiftLength (h .n) rows) SH (number2 s (at + 2)) (k + 1) (shiftFieldsAt s (h .n) (h .setup .group .p) (h .setup .group .q) at rows)
       (shiftProofAt s h before at rows (a - 1)) (recordFault sha256 s (headOf s h) a (suc m) k)
   unfolding recordFault recordLength
   shift-table = record { table = rw (shift-fields-are, shift-proof-is, ← e, ← er) }

@@ -1,4 +1,4 @@
--- What the tests of a record's frame tell, and those of a whole BA or SH record. Assumes nothing.
+-- What the tests of a record's frame tell, and those of a whole BA or SH record.
 use Prim.Native.Nat.{ℕ, _+_, _≤_, _<_}
 use mathlib.Core.Path.{_≡_, sym, _∙_}
 use mathlib.Core.Bool.{Bool, true, false}

@@ -1,4 +1,4 @@
--- The tests of the HD record, from the values that the code read. Assumes nothing.
+-- The tests of the HD record, from the values that the code read.
 use Prim.Native.Nat.{ℕ, _≤_, _<_}
 use mathlib.Core.Path.{_≡_, sym, ap, _∙_}
 use mathlib.Core.Bool.{true, false}
@@ -7,7 +7,7 @@ use lib.ListN.{length, getD}
 use borrow.Author.Tests.{le-leb, lt-leb}
 use Rattle.sha256.specs.Message.{sha256}
 use Rattle.group.specs.Elements.{Parameters}
-use Rattle.rules.specs.Bytes.{half, part}
+use Rattle.rules.specs.Bytes.{number2, part}
 use Rattle.rules.specs.Group.{sizes, orders, generators}
 use Rattle.rules.specs.Records.{HD, hasMark}
 use Rattle.rules.specs.Check.{Header, firstFault, _orElse_, header, headerFault, counterField}
@@ -27,7 +27,7 @@ pub record Shown (s : List ℕ) (n k : ℕ) (g : Parameters) : Type 0 where
   pub long : 54 ≤ length s
   pub mark : hasMark s 0 HD ≡ true
   pub n-is : n ≡ getD s 2 0
-  pub k-is : k ≡ half s 3
+  pub k-is : k ≡ number2 s 3
   pub group-is : g ≡ header s .group
 
 module _ {s : List ℕ} {n k : ℕ} {g : Parameters} (r : Shown s n k g) where

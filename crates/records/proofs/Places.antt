@@ -1,4 +1,4 @@
--- The places of records. Assumes nothing.
+-- The places of records.
 use Prim.Native.Nat.{ℕ, zero, suc, _+_, _*_, _-_, _≤_, _<_}
 use mathlib.Core.Path.{_≡_}
 use native.Mathlib.Nat.{mul-le-mul-right, zero-mul, add-zero}

@@ -1,4 +1,4 @@
--- What a sheet comes to, by its out field, and what is read of it, one process at a time. Assumes nothing.
+-- What a sheet comes to, by its out field, and what is read of it, one process at a time.
 use Prim.Native.Nat.{ℕ, _+_, _≤_, _<_}
 use mathlib.Core.Path.{_≡_, refl, sym, ap, _∙_}
 use mathlib.Core.Bool.{true, false, cond}

@@ -1,4 +1,4 @@
--- The tests of the RT record, at the place where the record starts. Assumes nothing.
+-- The tests of the RT record, at the place where the record starts.
 use Prim.Native.Nat.{ℕ, zero, suc, _+_, _*_, _<_}
 use mathlib.Core.Path.{_≡_, refl, sym, ap, _∙_}
 use mathlib.Core.Bool.{true, false, and-eq-true-iff}
@@ -14,7 +14,7 @@ use borrow.Author.Tests.{le-leb}
 use Rattle.numbers.specs.Below.{allBelow}
 use Rattle.numbers.proofs.Tests.{all-same}
 use Rattle.group.specs.declared.Exponent.{Exponent}
-use Rattle.rules.specs.Bytes.{word, half}
+use Rattle.rules.specs.Bytes.{number4, number2}
 use Rattle.rules.specs.Records.{RT, hasMark, recordAt, roundAt, recordLength, sheetLength}
 use Rattle.rules.specs.Claims.{matrixAt}
 use Rattle.rules.specs.Count.{table}
@@ -34,7 +34,7 @@ module _ (s : List ℕ) (h : Head) (m at : ℕ) (e : at ≡ recordAt (h .n) (h .
   one-more : (i : ℕ) (rest : List Test) →
       sheetFields s (headOf s h) m (suc i) ++ rest
       ≡ sheetFields s (headOf s h) m i
-      ++ ((leb (half s (at + 4 + 6 * i)) (h .k) orElse 9) ∷ (ltb (word s (at + 6 + 6 * i)) (h .setup .group .q) orElse 7) ∷ rest)
+      ++ ((leb (number2 s (at + 4 + 6 * i)) (h .k) orElse 9) ∷ (ltb (number4 s (at + 6 + 6 * i)) (h .setup .group .q) orElse 7) ∷ rest)
   unfolding sheetFields
   one-more i rest = rw (← e) (append-assoc (sheetFields s (headOf s h) m i) _ rest)
 
@@ -48,7 +48,7 @@ module _ (s : List ℕ) (h : Head) (m at : ℕ) (e : at ≡ recordAt (h .n) (h .
 
   -- the first bad pair of fields decides
   first-bad : (n i x : ℕ) → i < n → allBelow i (countGood s (h .k) (h .setup .group .q) at) ≡ true →
-      ((rest : List Test) → firstFault ((leb (half s (at + 4 + 6 * i)) (h .k) orElse 9) ∷ (ltb (word s (at + 6 + 6 * i)) (h .setup .group .q) orElse 7) ∷ rest) ≡ x) →
+      ((rest : List Test) → firstFault ((leb (number2 s (at + 4 + 6 * i)) (h .k) orElse 9) ∷ (ltb (number4 s (at + 6 + 6 * i)) (h .setup .group .q) orElse 7) ∷ rest) ≡ x) →
       (rest : List Test) → firstFault (sheetFields s (headOf s h) m n ++ rest) ≡ x
   first-bad zero i x l t b rest = absurd (omega arith)
   first-bad (suc n) i x l t b rest =
@@ -56,11 +56,11 @@ module _ (s : List ℕ) (h : Head) (m at : ℕ) (e : at ≡ recordAt (h .n) (h .
       ∙ ⊎-elim (λ (d : i ≡ n). rw (← d) (pass i t _ ∙ b rest)) (λ (y : i < n). first-bad n i x y t b _) (eq-or-lt-of-le (le-of-suc-le-suc l))
 
   module _ (n i : ℕ) (l : i < n) (t : allBelow i (countGood s (h .k) (h .setup .group .q) at) ≡ true) where
-    pub count-large : leb (half s (at + 4 + 6 * i)) (h .k) ≡ false → (rest : List Test) → firstFault (sheetFields s (headOf s h) m n ++ rest) ≡ 9
+    pub count-large : leb (number2 s (at + 4 + 6 * i)) (h .k) ≡ false → (rest : List Test) → firstFault (sheetFields s (headOf s h) m n ++ rest) ≡ 9
     unfolding firstFault
     count-large b = first-bad n i 9 l t (λ rest. rw b)
 
-    pub exponent-large : leb (half s (at + 4 + 6 * i)) (h .k) ≡ true → ltb (word s (at + 6 + 6 * i)) (h .setup .group .q) ≡ false →
+    pub exponent-large : leb (number2 s (at + 4 + 6 * i)) (h .k) ≡ true → ltb (number4 s (at + 6 + 6 * i)) (h .setup .group .q) ≡ false →
         (rest : List Test) → firstFault (sheetFields s (headOf s h) m n ++ rest) ≡ 7
     unfolding firstFault
     exponent-large b c = first-bad n i 7 l t (λ rest. rw (b, c))
@@ -72,8 +72,8 @@ module _ (s : List ℕ) (h : Head) (m at : ℕ) (e : at ≡ recordAt (h .n) (h .
     spot k i = rw (ef, es) (omega arith)
 
     -- with the counts and exponents that were read
-    pub tallies-are : (read : List ℕ) (xs : List Exponent) → take (h .n) read ≡ table (h .n) (λ i. half s (at + 4 + 6 * i)) →
-        ((i : ℕ) → i < h .n → exponentOf xs i ≡ word s (at + 6 + 6 * i)) →
+    pub tallies-are : (read : List ℕ) (xs : List Exponent) → take (h .n) read ≡ table (h .n) (λ i. number2 s (at + 4 + 6 * i)) →
+        ((i : ℕ) → i < h .n → exponentOf xs i ≡ number4 s (at + 6 + 6 * i)) →
         tallies s (headOf s h) m ≡ allBelow (h .n) (λ i. tallyAt s h first size i (getD read i 0) (exponentOf xs i))
     unfolding tallies matrixAt
     tallies-are read xs er ex =
@@ -81,14 +81,14 @@ module _ (s : List ℕ) (h : Head) (m at : ℕ) (e : at ≡ recordAt (h .n) (h .
         (λ i l.
         rw (
           ex i l,
-          sym (getD-take (h .n) read i 0 l) ∙ ap (λ (t : List ℕ). getD t i 0) er ∙ table-at (h .n) (λ i. half s (at + 4 + 6 * i)) 0 i l,
+          sym (getD-take (h .n) read i 0 l) ∙ ap (λ (t : List ℕ). getD t i 0) er ∙ table-at (h .n) (λ i. number2 s (at + 4 + 6 * i)) 0 i l,
           e,
           prod-words s (h .k) (λ k. recordAt (h .n) (h .k) m k + 4 + 8 * (0 * h .n + i)) (λ k. first + 4 + 8 * i + size * k) (λ k _. spot k i),
           prod-words s (h .k) (λ k. recordAt (h .n) (h .k) m k + 4 + 8 * (0 * h .n + i) + 4) (λ k. first + 4 + 8 * i + 4 + size * k)
               (λ k _. omega (arith, spot k i)),
         ))
 
-  pub counts-are : counts s (headOf s h) m ≡ table (h .n) (λ i. half s (at + 4 + 6 * i))
+  pub counts-are : counts s (headOf s h) m ≡ table (h .n) (λ i. number2 s (at + 4 + 6 * i))
   unfolding counts
   counts-are = rw e
 

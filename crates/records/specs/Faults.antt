@@ -6,7 +6,7 @@ use mathlib.Core.List.{List, [], _∷_, _++_}
 use lib.Dec.{leb, eqb}
 use lib.ListN.{length, getD, take}
 use Rattle.group.specs.declared.Exponent.{Exponent}
-use Rattle.rules.specs.Bytes.{half, word}
+use Rattle.rules.specs.Bytes.{number2, number4}
 use Rattle.rules.specs.Records.{hasMark}
 use Rattle.rules.specs.Count.{table, next, ended, leaves, wins, closes}
 use Rattle.rules.specs.Check.{Test, firstFault, _orElse_, sheetFields}
@@ -40,8 +40,8 @@ exponentOf xs i = getD xs i (record { 0 = 0 }) .0
 unfoldable pub Counted : (s : List ℕ) → Head → (m at : ℕ) (read : List ℕ) (xs : List Exponent) → Fault → Type 0
 Counted s h m at read xs Sound =
     ((rest : List Test) → firstFault (sheetFields s (headOf s h) m (h .n) ++ rest) ≡ firstFault rest)
-    × (take (h .n) read ≡ table (h .n) (λ i. half s (at + 4 + 6 * i)))
-    × ((i : ℕ) → i < h .n → exponentOf xs i ≡ word s (at + 6 + 6 * i))
+    × (take (h .n) read ≡ table (h .n) (λ i. number2 s (at + 4 + 6 * i)))
+    × ((i : ℕ) → i < h .n → exponentOf xs i ≡ number4 s (at + 6 + 6 * i))
 Counted s h m at read xs (Refused w) = (rest : List Test) → firstFault (sheetFields s (headOf s h) m (h .n) ++ rest) ≡ refusalNumber w
 
 -- the last test of a sheet, of what its out field holds

@@ -11,13 +11,13 @@ use Rattle.rules.specs.Check.{Header, header, headerFault}
 use Rattle.rules.specs.Answers.{refusalNumber}
 use Rattle.statements.specs.Values.{Ready}
 use Rattle.records.specs.declared.Head.{Head}
-use Rattle.records.specs.declared.header.Opened.{Opened}
-use Rattle.records.specs.declared.header.Opened.the-variants.{Board, Refused}
+use Rattle.records.specs.declared.header.HeaderRead.{HeaderRead}
+use Rattle.records.specs.declared.header.HeaderRead.the-variants.{Board, Refused}
 
 abbrev pub headOf : (s : List ℕ) → Head → Header
 headOf s h = record { n = h .n; K = h .k; group = parametersOf (h .setup .group); label = part s 22 32 }
 
-pub record Known (s : List ℕ) (h : Head) : Type 0 where
+pub record HeaderKnown (s : List ℕ) (h : Head) : Type 0 where
   pub ready : Ready (h .setup)
   pub low : 2 ≤ h .n
   pub high : h .n ≤ 8
@@ -26,6 +26,6 @@ pub record Known (s : List ℕ) (h : Head) : Type 0 where
   pub long : headerLength ≤ length s
 
 -- what opening a board tells
-unfoldable pub Opening : (s : List ℕ) → Opened → Type 0
-Opening s (Board h) = (headerFault sha256 s ≡ 0) × (headOf s h ≡ header s) × Known s h
-Opening s (Refused w) = headerFault sha256 s ≡ refusalNumber w
+unfoldable pub HeaderReads : (s : List ℕ) → HeaderRead → Type 0
+HeaderReads s (Board h) = (headerFault sha256 s ≡ 0) × (headOf s h ≡ header s) × HeaderKnown s h
+HeaderReads s (Refused w) = headerFault sha256 s ≡ refusalNumber w

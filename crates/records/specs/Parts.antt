@@ -8,7 +8,7 @@ use Rattle.sha256.specs.Message.{sha256}
 use Rattle.group.specs.Arithmetic.{powMod}
 use Rattle.group.specs.Elements.{parametersOf}
 use Rattle.rules.specs.Group.{paired}
-use Rattle.rules.specs.Bytes.{word, half, part}
+use Rattle.rules.specs.Bytes.{number4, number2, part}
 use Rattle.rules.specs.Claims.{matrixAt, entryClaim, rowClaim, columnClaim, shiftClaim}
 use Rattle.rules.specs.Proofs.{Statement, proofFields, proofHolds}
 use Rattle.statements.specs.Lines.{byLine}
@@ -53,11 +53,11 @@ shiftProofAt s h before at rows a =
 
 -- ---- RT
 abbrev pub countGood : (s : List ℕ) (k q at i : ℕ) → Bool
-countGood s k q at i = leb (half s (at + 4 + 6 * i)) k && ltb (word s (at + 6 + 6 * i)) q
+countGood s k q at i = leb (number2 s (at + 4 + 6 * i)) k && ltb (number4 s (at + 6 + 6 * i)) q
 
 -- column i of a round whose ballots start at first, size bytes apart, with the count and the exponent that its sheet has for it
 abbrev pub tallyAt : (s : List ℕ) (h : Head) (first size i count x : ℕ) → Bool
 tallyAt s h first size i count x =
-    eqb (prodBelow (h .k) (λ k. word s (first + 4 + 8 * i + size * k)) % h .setup .group .p) (paired (parametersOf (h .setup .group)) x count)
-    && eqb (prodBelow (h .k) (λ k. word s (first + 4 + 8 * i + 4 + size * k)) % h .setup .group .p)
+    eqb (prodBelow (h .k) (λ k. number4 s (first + 4 + 8 * i + size * k)) % h .setup .group .p) (paired (parametersOf (h .setup .group)) x count)
+    && eqb (prodBelow (h .k) (λ k. number4 s (first + 4 + 8 * i + 4 + size * k)) % h .setup .group .p)
     (powMod (h .setup .group .p) (h .setup .group .g1 .0) x)

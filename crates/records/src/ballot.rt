@@ -11,12 +11,12 @@ ghost use Rattle.numbers.specs.Below.{allBelow};
 ghost use Rattle.sha256.specs.Message.{sha256};
 ghost use Rattle.rules.specs.Records.{recordAt, ballotLength};
 ghost use Rattle.rules.specs.Check.{recordFault};
-ghost use Rattle.records.specs.Heads.{headOf, Known};
+ghost use Rattle.records.specs.Heads.{headOf, HeaderKnown};
 ghost use Rattle.records.specs.Faults.{faultNumber};
 ghost use Rattle.records.specs.Parts.{entryGood, lineGood, ballotProofsAt};
 
 fn entries_good(board: &[u8], h: Head, at: usize) -> bool
-    requires { ⌜ Known (now board) h × (at + ballotLength (h .n) ≤ length (now board)) ⌝ }
+    requires { ⌜ HeaderKnown (now board) h × (at + ballotLength (h .n) ≤ length (now board)) ⌝ }
     ensures { λ r. ⌜ r ≡ allBelow (h .n * h .n) (entryGood (now (board .entry)) h at) ⌝ }
 {
     let head = h;
@@ -39,7 +39,7 @@ fn entries_good(board: &[u8], h: Head, at: usize) -> bool
 
 // The proofs of the rows and the columns.
 fn lines_good(board: &[u8], h: Head, at: usize) -> bool
-    requires { ⌜ Known (now board) h × (at + ballotLength (h .n) ≤ length (now board)) ⌝ }
+    requires { ⌜ HeaderKnown (now board) h × (at + ballotLength (h .n) ≤ length (now board)) ⌝ }
     ensures { λ r. ⌜ r ≡ allBelow (h .n + h .n) (lineGood (now (board .entry)) h at) ⌝ }
 {
     let head = h;
@@ -57,7 +57,7 @@ fn lines_good(board: &[u8], h: Head, at: usize) -> bool
 }
 
 fn ballot_proofs(board: &[u8], h: Head, at: usize) -> bool
-    requires { ⌜ Known (now board) h × (at + ballotLength (h .n) ≤ length (now board)) ⌝ }
+    requires { ⌜ HeaderKnown (now board) h × (at + ballotLength (h .n) ≤ length (now board)) ⌝ }
     ensures { λ r. ⌜ r ≡ ballotProofsAt (now (board .entry)) h at ⌝ }
 {
     if !entries_good(board, h, at) {
@@ -68,7 +68,7 @@ fn ballot_proofs(board: &[u8], h: Head, at: usize) -> bool
 
 // Ballot k's record, at its place.
 pub fn ballot_fault(board: &[u8], h: Head, at: usize, k: usize) -> Fault
-    requires { ⌜ Known (now board) h × (at ≤ length (now board)) × (k < 1000) × (at ≡ recordAt (h .n) (h .k) 0 k) ⌝ }
+    requires { ⌜ HeaderKnown (now board) h × (at ≤ length (now board)) × (k < 1000) × (at ≡ recordAt (h .n) (h .k) 0 k) ⌝ }
     ensures { λ r. ⌜ ((a : ℕ) → faultNumber r ≡ recordFault sha256 (now (board .entry)) (headOf (now (board .entry)) h) a 0 k) ⌝ }
 {
     let n = h.n;

@@ -4,7 +4,7 @@ use rules::Refusal;
 ghost use mathlib.Core.Path.{_≡_};
 ghost use Prim.Native.Nat.{_+_, _≤_, _<_};
 ghost use lib.ListN.{length, getD};
-ghost use Rattle.rules.specs.Bytes.{half};
+ghost use Rattle.rules.specs.Bytes.{number2};
 ghost use Rattle.rules.specs.Records.{RT, hasMark, sheetLength};
 ghost use Rattle.records.specs.Faults.{Framed};
 
@@ -22,9 +22,9 @@ pub fn has_mark(board: &[u8], at: usize, mark: [u8; 2]) -> bool
 // The number of 2 bytes at a place.
 pub fn number(board: &[u8], at: usize) -> usize
     requires { ⌜ at + 2 ≤ length (now board) ⌝ }
-    ensures { λ r. ⌜ r ≡ half (now (board .entry)) at ⌝ }
+    ensures { λ r. ⌜ r ≡ number2 (now (board .entry)) at ⌝ }
 {
-    numbers::wide32(fields::half(board, at))
+    numbers::wide32(fields::number2(board, at))
 }
 
 // The number of 1 byte at a place.
@@ -38,7 +38,7 @@ pub fn byte(board: &[u8], at: usize) -> usize
 // A BA or SH record: its length, mark and number.
 pub fn ballot_frame(board: &[u8], at: usize, size: usize, mark: [u8; 2], due: usize) -> Fault
     requires { ⌜ (at ≤ length (now board)) × (4 ≤ size) ⌝ }
-    ensures { λ r. ⌜ Framed (now (board .entry)) at size mark (half (now (board .entry)) (at + 2)) due r ⌝ }
+    ensures { λ r. ⌜ Framed (now (board .entry)) at size mark (number2 (now (board .entry)) (at + 2)) due r ⌝ }
 {
     if board.len() - at < size {
         return Fault::Refused(Refusal::Length);

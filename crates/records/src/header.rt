@@ -10,9 +10,9 @@ ghost use lib.ListN.{length};
 ghost use Rattle.group.specs.Elements.{parametersOf};
 ghost use Rattle.rules.specs.Records.{headerLength};
 ghost use Rattle.rules.specs.Check.{header};
-ghost use Rattle.records.specs.Heads.{Opening};
+ghost use Rattle.records.specs.Heads.{HeaderReads};
 
-pub enum Opened {
+pub enum HeaderRead {
     Board(Head),
     Refused(Refusal),
 }
@@ -23,35 +23,35 @@ fn shown(board: &[u8]) -> Group
     ensures { λ r. ⌜ parametersOf r ≡ header (now (board .entry)) .group ⌝ }
 {
     Group {
-        p: fields::word(board, 5),
-        q: fields::word(board, 9),
+        p: fields::number4(board, 5),
+        q: fields::number4(board, 9),
         g0: fields::as_element(board, 13),
         g1: fields::as_element(board, 18),
     }
 }
 
-pub fn open(board: &[u8]) -> Opened
-    ensures { λ r. ⌜ Opening (now (board .entry)) r ⌝ }
+pub fn read_header(board: &[u8]) -> HeaderRead
+    ensures { λ r. ⌜ HeaderReads (now (board .entry)) r ⌝ }
 {
     if board.len() < layout::HEADER_LENGTH {
-        return Opened::Refused(Refusal::Length);
+        return HeaderRead::Refused(Refusal::Length);
     }
     if !frames::has_mark(board, 0, layout::HD) {
-        return Opened::Refused(Refusal::Mark);
+        return HeaderRead::Refused(Refusal::Mark);
     }
     let n = frames::byte(board, 2);
     let k = frames::number(board, 3);
     let group = shown(board);
     if !parameters::sizes_good(n, k) {
-        return Opened::Refused(Refusal::Sizes);
+        return HeaderRead::Refused(Refusal::Sizes);
     }
     if !parameters::orders_good(n, k, group.p, group.q) {
-        return Opened::Refused(Refusal::Orders);
+        return HeaderRead::Refused(Refusal::Orders);
     }
     if !parameters::generators_good(&board[22..layout::HEADER_LENGTH], board[17], group) {
-        return Opened::Refused(Refusal::Generators);
+        return HeaderRead::Refused(Refusal::Generators);
     }
-    Opened::Board(Head {
+    HeaderRead::Board(Head {
         n,
         k,
         setup: Setup::new(group),

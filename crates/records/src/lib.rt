@@ -12,7 +12,7 @@ ghost use Rattle.group.specs.Elements.{parametersOf};
 ghost use Rattle.rules.specs.Bytes.{part};
 ghost use Rattle.rules.specs.Proofs.{proofHolds};
 ghost use Rattle.statements.specs.Claims.{claimOf, Within};
-ghost use Rattle.records.specs.Heads.{Known};
+ghost use Rattle.records.specs.Heads.{HeaderKnown};
 ghost use Rattle.records.specs.Parts.{fieldsAt};
 
 pub mod ballot;
@@ -66,7 +66,7 @@ fn proof_good(
     h: Head,
     claim: Claim,
 ) -> bool
-    requires { ⌜ Known (now board) h ⌝ }
+    requires { ⌜ HeaderKnown (now board) h ⌝ }
     requires { ⌜ at + branches * (4 + 12 * statements) ≤ length (now board) ⌝ }
     requires { ⌜ ((l i : ℕ) → l < branches → i < statements → Within (now board) (now inverses) (parametersOf (h .setup .group)) (h .n) claim l i) ⌝ }
     ensures { λ r. ⌜ r ≡ proofHolds (now (board .entry)) at branches statements sha256 (part (now (board .entry)) 22 32) (parametersOf (h .setup .group)) (claimOf (now (board .entry)) (parametersOf (h .setup .group)) (h .n) claim) ⌝ }

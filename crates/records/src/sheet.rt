@@ -15,7 +15,7 @@ ghost use Rattle.numbers.specs.Below.{allBelow};
 ghost use Rattle.rules.specs.Records.{recordAt, recordLength, roundAt, sheetLength};
 ghost use Rattle.rules.specs.Check.{counts, sheetFault, due};
 ghost use Rattle.count.specs.State.{standingOf, countsOn, Kept};
-ghost use Rattle.records.specs.Heads.{headOf, Known};
+ghost use Rattle.records.specs.Heads.{headOf, HeaderKnown};
 ghost use Rattle.records.specs.Faults.{Counted, exponentOf, outFault, Stepped};
 ghost use Rattle.records.specs.Parts.{tallyAt};
 
@@ -41,7 +41,7 @@ struct SheetFields {
 
 // The counts and exponents of the sheet of round m, left to right.
 fn sheet_fields(board: &[u8], h: Head, m: usize, at: usize) -> SheetFields
-    requires { ⌜ Known (now board) h × (at ≡ recordAt (h .n) (h .k) m (h .k)) × (at + sheetLength (h .n) ≤ length (now board)) ⌝ }
+    requires { ⌜ HeaderKnown (now board) h × (at ≡ recordAt (h .n) (h .k) m (h .k)) × (at + sheetLength (h .n) ≤ length (now board)) ⌝ }
     ensures { λ r. ⌜ Counted (now (board .entry)) h m at (r .sheet .counts) (r .s) (r .fault) ⌝ }
 {
     let n = h.n;
@@ -86,7 +86,7 @@ fn tally(
     count: Exponent,
     s: Exponent,
 ) -> bool
-    requires { ⌜ Known (now board) h × (i < h .n) × (4 + 8 * h .n ≤ size) × (first + size * h .k ≤ length (now board)) ⌝ }
+    requires { ⌜ HeaderKnown (now board) h × (i < h .n) × (4 + 8 * h .n ≤ size) × (first + size * h .k ≤ length (now board)) ⌝ }
     ensures { λ r. ⌜ r ≡ tallyAt (now (board .entry)) h first size i (count .0) (s .0) ⌝ }
 {
     let group = h.setup.group;
@@ -108,7 +108,7 @@ fn tally(
 }
 
 fn tallies(board: &[u8], h: Head, first: usize, size: usize, sheet: Sheet, s: [Exponent; 8]) -> bool
-    requires { ⌜ Known (now board) h × (4 + 8 * h .n ≤ size) × (first + size * h .k ≤ length (now board)) ⌝ }
+    requires { ⌜ HeaderKnown (now board) h × (4 + 8 * h .n ≤ size) × (first + size * h .k ≤ length (now board)) ⌝ }
     ensures { λ r. ⌜ r ≡ allBelow (h .n) (λ i. tallyAt (now (board .entry)) h first size i (getD (sheet .counts) i 0) (exponentOf s i)) ⌝ }
 {
     let head = h;
@@ -169,7 +169,7 @@ pub fn sheet_step(
     size: usize,
     at: usize,
 ) -> Step
-    requires { ⌜ Known (now board) h × Kept count × (count .gone .outs ≡ m) × (m < h .n) × (at ≤ length (now board)) ⌝ }
+    requires { ⌜ HeaderKnown (now board) h × Kept count × (count .gone .outs ≡ m) × (m < h .n) × (at ≤ length (now board)) ⌝ }
     requires { ⌜ (at ≡ recordAt (h .n) (h .k) m (h .k)) × (first ≡ roundAt (h .n) (h .k) m) × (size ≡ recordLength (h .n) m) ⌝ }
     ensures { λ r. ⌜ Stepped (h .n) (h .k) count (counts (now (board .entry)) (headOf (now (board .entry)) h) m) (sheetFault (now (board .entry)) (headOf (now (board .entry)) h) m (due (headOf (now (board .entry)) h) (standingOf (h .n) count) (counts (now (board .entry)) (headOf (now (board .entry)) h) m))) (r .outcome) (r .count) ⌝ }
 {

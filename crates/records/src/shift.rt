@@ -11,13 +11,13 @@ ghost use lib.ListN.{length};
 ghost use Rattle.sha256.specs.Message.{sha256};
 ghost use Rattle.rules.specs.Records.{recordAt, shiftLength};
 ghost use Rattle.rules.specs.Check.{recordFault};
-ghost use Rattle.records.specs.Heads.{headOf, Known};
+ghost use Rattle.records.specs.Heads.{headOf, HeaderKnown};
 ghost use Rattle.records.specs.Faults.{faultNumber};
 ghost use Rattle.records.specs.Parts.{shiftProofAt};
 
 // The proof, that the row with its 1 in column a is struck. The inverses of the matrix before are made once.
 fn shift_proof(board: &[u8], h: Head, before: usize, at: usize, rows: usize, a: usize) -> bool
-    requires { ⌜ Known (now board) h × (rows < h .n) × (a < h .n) ⌝ }
+    requires { ⌜ HeaderKnown (now board) h × (rows < h .n) × (a < h .n) ⌝ }
     requires { ⌜ (before + 4 + 8 * ((rows + 1) * h .n) ≤ length (now board)) × (at + shiftLength (h .n) rows ≤ length (now board)) ⌝ }
     ensures { λ r. ⌜ r ≡ shiftProofAt (now (board .entry)) h before at rows a ⌝ }
 {
@@ -52,7 +52,7 @@ pub fn shift_fault(
     at: usize,
     before: usize,
 ) -> Fault
-    requires { ⌜ Known (now board) h × (at ≤ length (now board)) × (k < 1000) × (m + 1 < h .n) × (1 ≤ a) × (a ≤ h .n) ⌝ }
+    requires { ⌜ HeaderKnown (now board) h × (at ≤ length (now board)) × (k < 1000) × (m + 1 < h .n) × (1 ≤ a) × (a ≤ h .n) ⌝ }
     requires { ⌜ (at ≡ recordAt (h .n) (h .k) (suc m) k) × (before ≡ recordAt (h .n) (h .k) m k) × (before + 4 + 8 * ((h .n - m) * h .n) ≤ length (now board)) ⌝ }
     ensures { λ r. ⌜ faultNumber r ≡ recordFault sha256 (now (board .entry)) (headOf (now (board .entry)) h) a (suc m) k ⌝ }
 {

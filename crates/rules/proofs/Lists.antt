@@ -1,4 +1,4 @@
--- Laws of tables, votes and membership. Assumes nothing.
+-- Laws of tables, votes and membership.
 use Prim.Native.Nat.{ℕ, zero, suc, _+_, _≤_, _<_}
 use mathlib.Core.Path.{_≡_, refl, sym, ap, ap₂, _∙_}
 use mathlib.Core.Bool.{Bool, true, false, cond, _||_, false≢true, or-assoc}

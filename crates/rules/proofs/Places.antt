@@ -7,9 +7,9 @@ use mathlib.Core.List.{List, _∷_, _++_}
 use mathlib.Core.Logic.{_⊎_, inl, inr}
 use lib.ListN.{length, getD, drop, length-append, List·getD-append, length-take, length-drop}
 use lib.Seq.{getD-append-add, getD-drop, getD-take, ext-getD}
-use Rattle.numbers.specs.Below.{blocks}
+use Rattle.numbers.specs.Below.{concatBelow}
 use Rattle.numbers.proofs.Blocks.{length-blocks}
-use Rattle.rules.specs.Bytes.{part, half, word, bytes2, bytes4, Stands}
+use Rattle.rules.specs.Bytes.{part, number2, number4, bytes2, bytes4, Stands}
 
 pub stands-whole : (s : List ℕ) → Stands s 0 s
 stands-whole s = record { fits = omega arith; same = λ d h. rw zero-add }
@@ -29,16 +29,16 @@ pub stands-moved : {s x : List ℕ} {at at' : ℕ} → at ≡ at' → Stands s a
 stands-moved e h = rw e at h
 
 pub stands-block : {s : List ℕ} {at : ℕ} (k w : ℕ) (f : ℕ → List ℕ) → ((i : ℕ) → i < k → length (f i) ≡ w) →
-    Stands s at (blocks k f) → (i : ℕ) → i < k → Stands s (at + i * w) (f i)
-unfolding blocks
+    Stands s at (concatBelow k f) → (i : ℕ) → i < k → Stands s (at + i * w) (f i)
+unfolding concatBelow
 stands-block zero w f e h i l = absurd (not-suc-le-zero l)
-stands-block {s} {at} (suc k) w f e h i l = go (stands-block k w f below (stands-left (blocks k f) _ h) i) (eq-or-lt-of-le (le-of-suc-le-suc l))
+stands-block {s} {at} (suc k) w f e h i l = go (stands-block k w f below (stands-left (concatBelow k f) _ h) i) (eq-or-lt-of-le (le-of-suc-le-suc l))
   where
     below : (j : ℕ) → j < k → length (f j) ≡ w
     below j g = e j (omega arith)
 
     go : (i < k → Stands s (at + i * w) (f i)) → (i ≡ k) ⊎ (i < k) → Stands s (at + i * w) (f i)
-    go rec (inl q) = rw q (stands-right (blocks k f) (f k) (length-blocks k w f below) h)
+    go rec (inl q) = rw q (stands-right (concatBelow k f) (f k) (length-blocks k w f below) h)
     go rec (inr g) = rec g
 
 -- four digits to the base 256
@@ -55,13 +55,13 @@ module _ {s : List ℕ} {at : ℕ} where
       ext-getD 0 (part s at k) x (e1 ∙ sym e)
       (λ i l. getD-take k (drop at s) i 0 (omega arith) ∙ getD-drop at s i 0 ∙ h .same i (omega arith))
 
-  pub half-stands : {x : ℕ} → x < 65536 → Stands s at (bytes2 x) → half s at ≡ x
+  pub half-stands : {x : ℕ} → x < 65536 → Stands s at (bytes2 x) → number2 s at ≡ x
   half-stands {x} l h =
       let e0 : getD s at 0 ≡ x / 256 % 256 = rw add-zero at (h .same 0 (omega arith)) in
       let e1 : getD s (at + 1) 0 ≡ x % 256 = h .same 1 (omega arith) in
       rw (e0, e1) (omega arith)
 
-  pub word-stands : {x : ℕ} → x < 4294967296 → Stands s at (bytes4 x) → word s at ≡ x
+  pub word-stands : {x : ℕ} → x < 4294967296 → Stands s at (bytes4 x) → number4 s at ≡ x
   word-stands {x} l h =
       let e0 : getD s at 0 ≡ x / 16777216 % 256 = rw add-zero at (h .same 0 (omega arith)) in
       let e1 : getD s (at + 1) 0 ≡ x / 65536 % 256 = h .same 1 (omega arith) in

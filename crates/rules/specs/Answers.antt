@@ -35,10 +35,10 @@ abbrev pub verdictOf : Checked → Verdict
 verdictOf r = answerOf (r .answer) (r .order)
 
 -- what the array of 8 holds: the order of going out, then zeros
-unfoldable pub padded : (order : List ℕ) → List ℕ
-padded order = order ++ replicate (8 - length order) 0
+unfoldable pub withZeros : (order : List ℕ) → List ℕ
+withZeros order = order ++ replicate (8 - length order) 0
 
 -- zeros alone where the board is refused
 abbrev pub orderOf : Verdict → List ℕ
-orderOf (accepted rounds order winner) = padded order
+orderOf (accepted rounds order winner) = withZeros order
 orderOf (refused number place) = replicate 8 0

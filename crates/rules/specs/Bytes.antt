@@ -9,14 +9,14 @@ abbrev pub part : (s : List ℕ) (at len : ℕ) → List ℕ
 part s at len = take len (drop at s)
 
 -- the numbers of 2, 4 and 8 bytes at a place
-abbrev pub half : (s : List ℕ) (at : ℕ) → ℕ
-half s at = getD s at 0 * 256 + getD s (at + 1) 0
+abbrev pub number2 : (s : List ℕ) (at : ℕ) → ℕ
+number2 s at = getD s at 0 * 256 + getD s (at + 1) 0
 
-abbrev pub word : (s : List ℕ) (at : ℕ) → ℕ
-word s at = getD s at 0 * 16777216 + getD s (at + 1) 0 * 65536 + getD s (at + 2) 0 * 256 + getD s (at + 3) 0
+abbrev pub number4 : (s : List ℕ) (at : ℕ) → ℕ
+number4 s at = getD s at 0 * 16777216 + getD s (at + 1) 0 * 65536 + getD s (at + 2) 0 * 256 + getD s (at + 3) 0
 
-abbrev pub long : (s : List ℕ) (at : ℕ) → ℕ
-long s at = word s at * 4294967296 + word s (at + 4)
+abbrev pub number8 : (s : List ℕ) (at : ℕ) → ℕ
+number8 s at = number4 s at * 4294967296 + number4 s (at + 4)
 
 -- the bytes of a number below 2^16, and of one below 2^32
 abbrev pub bytes2 : ℕ → List ℕ

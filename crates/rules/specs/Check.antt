@@ -8,7 +8,7 @@ use lib.ListN.{length, getD}
 use Rattle.numbers.specs.Below.{allBelow, prodBelow}
 use Rattle.group.specs.Arithmetic.{powMod}
 use Rattle.group.specs.Elements.{isElement, Parameters}
-use Rattle.rules.specs.Bytes.{word, half, part}
+use Rattle.rules.specs.Bytes.{number4, number2, part}
 use Rattle.rules.specs.Group.{paired, sizes, orders, generators}
 use Rattle.rules.specs.Proofs.{proofFields, proofHolds}
 use Rattle.rules.specs.Records.{HD, BA, SH, RT, hasMark, headerLength, recordLength, sheetLength, recordAt, recordNumber}
@@ -52,7 +52,7 @@ place h m k = recordAt (h .n) (h .K) m k
 
 module _ (s : List ℕ) where
   unfoldable pub header : Header
-  header = record { n = getD s 2 0; K = half s 3; group = record { p = word s 5; q = word s 9; g0 = word s 13; g1 = word s 18 }; label = part s 22 32 }
+  header = record { n = getD s 2 0; K = number2 s 3; group = record { p = number4 s 5; q = number4 s 9; g0 = number4 s 13; g1 = number4 s 18 }; label = part s 22 32 }
 
   abbrev pub counterField : ℕ
   counterField = getD s 17 0
@@ -82,10 +82,10 @@ module _ (s : List ℕ) where
     outField m = getD s (place h m (h .K) + 3) 0
 
     abbrev pub countField : (m i : ℕ) → ℕ
-    countField m i = half s (place h m (h .K) + 4 + 6 * i)
+    countField m i = number2 s (place h m (h .K) + 4 + 6 * i)
 
     abbrev pub sField : (m i : ℕ) → ℕ
-    sField m i = word s (place h m (h .K) + 6 + 6 * i)
+    sField m i = number4 s (place h m (h .K) + 6 + 6 * i)
 
     unfoldable pub counts : (m : ℕ) → List ℕ
     counts m = table (h .n) (countField m)
@@ -176,7 +176,7 @@ module _ (hash : List ℕ → List ℕ) (s : List ℕ) where
         firstFault
         ((leb (place h 0 k + recordLength (h .n) 0) (length s) orElse 1)
         ∷ (hasMark s (place h 0 k) BA orElse 2)
-        ∷ (eqb (half s (place h 0 k + 2)) (k + 1) orElse 6)
+        ∷ (eqb (number2 s (place h 0 k + 2)) (k + 1) orElse 6)
         ∷ (ballotFields s h k orElse 7)
         ∷ (ballotProofs k orElse 8)
         ∷ [])
@@ -184,7 +184,7 @@ module _ (hash : List ℕ → List ℕ) (s : List ℕ) where
         firstFault
         ((leb (place h (suc m) k + recordLength (h .n) (suc m)) (length s) orElse 1)
         ∷ (hasMark s (place h (suc m) k) SH orElse 2)
-        ∷ (eqb (half s (place h (suc m) k + 2)) (k + 1) orElse 6)
+        ∷ (eqb (number2 s (place h (suc m) k + 2)) (k + 1) orElse 6)
         ∷ (shiftFields s h m k orElse 7)
         ∷ (shiftHolds m k a orElse 8)
         ∷ [])

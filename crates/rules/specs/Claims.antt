@@ -6,7 +6,7 @@ use lib.Dec.{eqb, ltb}
 use Rattle.numbers.specs.Below.{prodBelow}
 use Rattle.group.specs.Arithmetic.{over}
 use Rattle.group.specs.Elements.{Parameters}
-use Rattle.rules.specs.Bytes.{word}
+use Rattle.rules.specs.Bytes.{number4}
 use Rattle.rules.specs.Proofs.{Statement}
 
 -- pairs by row and column
@@ -16,7 +16,7 @@ pub record Matrix : Type 0 where
 
 -- "pairs (b 4, Y 4) by rows": those of the record that starts at a place
 unfoldable pub matrixAt : (s : List ℕ) (n at : ℕ) → Matrix
-matrixAt s n at = record { b = λ i j. word s (at + 4 + 8 * (i * n + j)); y = λ i j. word s (at + 4 + 8 * (i * n + j) + 4) }
+matrixAt s n at = record { b = λ i j. number4 s (at + 4 + 8 * (i * n + j)); y = λ i j. number4 s (at + 4 + 8 * (i * n + j) + 4) }
 
 -- "Entry: two branches, (b, Y) and (b/g1, Y)."
 unfoldable pub entryClaim : Parameters → Matrix → (i j l : ℕ) → Statement

@@ -35,8 +35,8 @@ abbrev pub start : Standing
 start = record { gone = []; sheets = [] }
 
 -- m, from 1
-abbrev pub roundOf : Standing → ℕ
-roundOf st = length (st .sheets) + 1
+abbrev pub roundNumber : Standing → ℕ
+roundNumber st = length (st .sheets) + 1
 
 unfoldable pub stillIn : (n : ℕ) (gone : List ℕ) (c : ℕ) → Bool
 stillIn n gone c = leb 1 c && leb c n && not (member c gone)
@@ -65,7 +65,7 @@ module _ (n : ℕ) (st : Standing) (counts : List ℕ) where
   -- "A round closes the board if a process still in has 2 × count > K, or if m = n−1."
   unfoldable pub closes : (K : ℕ) → Bool
   unfolding majority
-  closes K = eqb (roundOf st) (n - 1) || majority K
+  closes K = eqb (roundNumber st) (n - 1) || majority K
 
   abbrev pub leaves : ℕ
   leaves = lowest st counts n
@@ -101,7 +101,7 @@ pub record Result : Type 0 where
 
 -- the result where a standing count's round, with these counts, is the last
 abbrev pub ended : (n : ℕ) → Standing → List ℕ → Result
-ended n st counts = record { rounds = roundOf st; counts = st .sheets ++ (counts ∷ []); order = st .gone; winner = wins n st counts }
+ended n st counts = record { rounds = roundNumber st; counts = st .sheets ++ (counts ∷ []); order = st .gone; winner = wins n st counts }
 
 module _ (n : ℕ) (rankings : List (List ℕ)) where
   -- fuel: rounds at the most

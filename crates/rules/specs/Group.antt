@@ -6,7 +6,7 @@ use lib.Dec.{leb, ltb, eqb}
 use Rattle.numbers.specs.Primes.{isPrime}
 use Rattle.group.specs.Arithmetic.{mulMod, powMod}
 use Rattle.group.specs.Elements.{isElement, Parameters}
-use Rattle.rules.specs.Bytes.{bytes4, long}
+use Rattle.rules.specs.Bytes.{bytes4, number8}
 
 -- "n is the number of processes (2 to 8, numbered from 1), K the number of ballots (1 to 1,000)."
 abbrev pub sizes : (n K : ℕ) → Bool
@@ -18,7 +18,7 @@ orders n K p q = isPrime p && isPrime q && ltb p (2 ^ 31) && eqb ((p - 1) % q) 0
 
 -- "g1 is made so: SHA-256 of label (32 bytes), g0 (4 bytes), counter (1 byte); the first 8 bytes of the digest as a number, modulo p, to the power (p−1)/q."
 unfoldable pub derived : (hash : List ℕ → List ℕ) (label : List ℕ) (p q g0 counter : ℕ) → ℕ
-derived hash label p q g0 counter = powMod p (long (hash (label ++ bytes4 g0 ++ (counter ∷ []))) 0 % p) ((p - 1) / q)
+derived hash label p q g0 counter = powMod p (number8 (hash (label ++ bytes4 g0 ++ (counter ∷ []))) 0 % p) ((p - 1) / q)
 
 -- "g0 is an element other than 1." The shown g1 is the one made, and "must not be 0, 1 or g0."
 unfoldable pub generators : (hash : List ℕ → List ℕ) (label : List ℕ) (counter : ℕ) → Parameters → Bool

@@ -4,10 +4,10 @@ use Prim.Native.Nat.{ℕ, _+_, _*_, _%_}
 use mathlib.Core.List.{List, _++_}
 use mathlib.Core.Bool.{Bool, _&&_}
 use lib.Dec.{eqb, ltb}
-use Rattle.numbers.specs.Below.{allBelow, sumBelow, blocks}
+use Rattle.numbers.specs.Below.{allBelow, sumBelow, concatBelow}
 use Rattle.group.specs.Arithmetic.{mulMod, powMod}
 use Rattle.group.specs.Elements.{isElement, Parameters}
-use Rattle.rules.specs.Bytes.{word, long, part}
+use Rattle.rules.specs.Bytes.{number4, number8, part}
 
 -- "Every statement has one kind: for a pair (A, B), some w has A = g0^w and B = g1^w."
 pub record Statement : Type 0 where
@@ -21,7 +21,7 @@ statementHolds p base0 base1 st t1 t2 e r =
 
 -- "c is the first 8 bytes of SHA-256(label, then t1, t2 of every statement in order), modulo q."
 abbrev pub challenge : (hash : List ℕ → List ℕ) (label commitments : List ℕ) (q : ℕ) → ℕ
-challenge hash label commitments q = long (hash (label ++ commitments)) 0 % q
+challenge hash label commitments q = number8 (hash (label ++ commitments)) 0 % q
 
 -- "A proof is, per branch, e 4, then per statement t1, t2, r, 4 each." Its branches have as many statements each.
 abbrev pub branchAt : (at statements l : ℕ) → ℕ
@@ -36,20 +36,20 @@ module _ (s : List ℕ) (at branches statements : ℕ) where
   unfoldable pub proofFields : (p q : ℕ) → Bool
   proofFields p q =
       allBelow branches (λ l.
-      ltb (word s (branchAt at statements l)) q
+      ltb (number4 s (branchAt at statements l)) q
       && allBelow statements (λ i.
-      isElement p q (word s (statementAt at statements l i))
-      && isElement p q (word s (statementAt at statements l i + 4))
-      && ltb (word s (statementAt at statements l i + 8)) q))
+      isElement p q (number4 s (statementAt at statements l i))
+      && isElement p q (number4 s (statementAt at statements l i + 4))
+      && ltb (number4 s (statementAt at statements l i + 8)) q))
 
   unfoldable pub commitments : List ℕ
-  commitments = blocks branches (λ l. blocks statements (λ i. part s (statementAt at statements l i) 8))
+  commitments = concatBelow branches (λ l. concatBelow statements (λ i. part s (statementAt at statements l i) 8))
 
   -- "It holds if for every statement" the equations hold "and the challenges add up, modulo q, to c."
   unfoldable pub proofHolds : (hash : List ℕ → List ℕ) (label : List ℕ) → Parameters → (claim : ℕ → ℕ → Statement) → Bool
   proofHolds hash label g claim =
       allBelow branches (λ l. allBelow statements (λ i.
       statementHolds (g .p) (g .g0) (g .g1) (claim l i)
-      (word s (statementAt at statements l i)) (word s (statementAt at statements l i + 4))
-      (word s (branchAt at statements l)) (word s (statementAt at statements l i + 8))))
-      && eqb (sumBelow branches (λ l. word s (branchAt at statements l)) % g .q) (challenge hash label commitments (g .q))
+      (number4 s (statementAt at statements l i)) (number4 s (statementAt at statements l i + 4))
+      (number4 s (branchAt at statements l)) (number4 s (statementAt at statements l i + 8))))
+      && eqb (sumBelow branches (λ l. number4 s (branchAt at statements l)) % g .q) (challenge hash label commitments (g .q))

@@ -1,4 +1,4 @@
--- Rows and columns as lines. Assumes nothing.
+-- Rows and columns as lines.
 use Prim.Native.Nat.{ℕ, _+_, _*_, _-_, _≤_, _<_}
 use mathlib.Core.Path.{_≡_, ap₂, _∙_}
 use mathlib.Core.Bool.{Bool, _&&_}
@@ -7,7 +7,7 @@ use native.Mathlib.Nat.{mul-le-mul-right}
 use native.Mathlib.Omega.{arith}
 use borrow.Author.Tests.{lt-ltb, le-ltb, ltb-true, ltb-false}
 use lib.Dec.{ltb}
-use Rattle.numbers.specs.Below.{allBelow, blocks}
+use Rattle.numbers.specs.Below.{allBelow, concatBelow}
 use Rattle.numbers.proofs.Tests.{by-cases, all-add, all-same}
 use Rattle.numbers.proofs.Blocks.{blocks-add, blocks-same}
 use Rattle.statements.specs.Lines.{byLine, lineStart, lineStride}
@@ -57,5 +57,5 @@ pub all-lines : (n : ℕ) (f row column : ℕ → Bool) → ((i : ℕ) → i < n
 all-lines n f row column r c = all-add n n f ∙ ap₂ _&&_ (all-same n _ _ r) (all-same n _ _ c)
 
 pub blocks-lines : (n : ℕ) (f row column : ℕ → List ℕ) → ((i : ℕ) → i < n → f i ≡ row i) → ((j : ℕ) → j < n → f (n + j) ≡ column j) →
-    blocks (n + n) f ≡ blocks n row ++ blocks n column
+    concatBelow (n + n) f ≡ concatBelow n row ++ concatBelow n column
 blocks-lines n f row column r c = blocks-add n n f ∙ ap₂ _++_ (blocks-same n _ _ r) (blocks-same n _ _ c)

@@ -1,4 +1,4 @@
--- What a walk of fields tells, one field or block after another. Assumes nothing.
+-- What a walk of fields tells, one field or block after another.
 use Prim.Native.Nat.{ℕ, _+_, _≤_, _<_}
 use mathlib.Core.Path.{_≡_, refl, ap, _∙_}
 use mathlib.Core.Bool.{Bool, true, false}
@@ -12,7 +12,7 @@ use Rattle.group.specs.declared.Exponent.{Exponent}
 use Rattle.fields.specs.declared.ElementField.the-variants as E
 use Rattle.fields.specs.declared.ExponentField.the-variants as X
 use Rattle.fields.specs.Answers.{elementAt, exponentAt}
-use Rattle.fields.proofs.Told.{element-value, element-refused, exponent-value, exponent-refused}
+use Rattle.fields.proofs.Values.{element-value, element-refused, exponent-value, exponent-refused}
 use Rattle.statements.specs.Walks.{walkIf, pairFields, statementFields}
 use Rattle.statements.specs.declared.walks.Walk.the-variants.{To, Refused}
 

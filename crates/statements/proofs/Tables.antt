@@ -1,4 +1,4 @@
--- A table filled from the front by a rule. Assumes nothing.
+-- A table filled from the front by a rule.
 use Prim.Native.Nat.{ℕ, zero, suc, _+_, _<_}
 use mathlib.Core.Path.{_≡_, refl, _∙_}
 use mathlib.Core.List.{List}

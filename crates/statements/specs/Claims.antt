@@ -5,7 +5,7 @@ use mathlib.Core.List.{List}
 use lib.ListN.{length, getD}
 use Rattle.group.specs.Arithmetic.{powMod}
 use Rattle.group.specs.Elements.{Parameters}
-use Rattle.rules.specs.Bytes.{word}
+use Rattle.rules.specs.Bytes.{number4}
 use Rattle.rules.specs.Proofs as said
 use Rattle.rules.specs.Claims.{matrixAt, entryClaim, rowClaim, columnClaim, shiftClaim}
 use Rattle.statements.specs.Lines.{byLine}
@@ -21,7 +21,7 @@ claimOf s g n (Shift before new rows a) l k = shiftClaim g n (matrixAt s n befor
 
 -- the inverses of the words of a matrix, one after another
 abbrev pub Inverted : (s : List ℕ) (p q at words : ℕ) (inverses : List ℕ) → Type 0
-Inverted s p q at words inverses = (u : ℕ) → u < words → getD inverses u 0 ≡ powMod p (word s (at + 4 + 4 * u)) (q - 1)
+Inverted s p q at words inverses = (u : ℕ) → u < words → getD inverses u 0 ≡ powMod p (number4 s (at + 4 + 4 * u)) (q - 1)
 
 pub record InverseTable (s : List ℕ) (p q at words : ℕ) (inverses : List ℕ) : Type 0 where
   pub long : length inverses ≡ 128

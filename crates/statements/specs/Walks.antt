@@ -5,7 +5,7 @@ use mathlib.Core.Bool.{Bool, true, false, _&&_}
 use lib.Dec.{ltb}
 use Rattle.numbers.specs.Below.{allBelow}
 use Rattle.group.specs.Elements.{isElement}
-use Rattle.rules.specs.Bytes.{word}
+use Rattle.rules.specs.Bytes.{number4}
 use Rattle.statements.specs.declared.walks.Walk.{Walk}
 use Rattle.statements.specs.declared.walks.Walk.the-variants.{To, Refused}
 
@@ -16,14 +16,14 @@ walkIf false at = Refused
 
 -- two elements, and pairs one after another
 abbrev pub pairFields : (s : List ℕ) (at p q : ℕ) → Bool
-pairFields s at p q = isElement p q (word s at) && isElement p q (word s (at + 4))
+pairFields s at p q = isElement p q (number4 s at) && isElement p q (number4 s (at + 4))
 
 abbrev pub pairsFields : (s : List ℕ) (at count p q : ℕ) → Bool
 pairsFields s at count p q = allBelow count (λ i. pairFields s (at + 8 * i) p q)
 
 -- the fields of a statement, and of a branch
 abbrev pub statementFields : (s : List ℕ) (at p q : ℕ) → Bool
-statementFields s at p q = pairFields s at p q && ltb (word s (at + 8)) q
+statementFields s at p q = pairFields s at p q && ltb (number4 s (at + 8)) q
 
 abbrev pub branchFields : (s : List ℕ) (at statements p q : ℕ) → Bool
-branchFields s at statements p q = ltb (word s at) q && allBelow statements (λ i. statementFields s (at + 4 + 12 * i) p q)
+branchFields s at statements p q = ltb (number4 s at) q && allBelow statements (λ i. statementFields s (at + 4 + 12 * i) p q)

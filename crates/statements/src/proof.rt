@@ -9,7 +9,7 @@ ghost use Prim.Native.Nat.{ℕ, _+_, _*_, _-_, _≤_, _<_};
 ghost use lib.ListN.{length};
 ghost use Rattle.sha256.specs.Message.{sha256};
 ghost use Rattle.group.specs.Elements.{parametersOf};
-ghost use Rattle.rules.specs.Bytes.{word};
+ghost use Rattle.rules.specs.Bytes.{number4};
 ghost use Rattle.rules.specs.Proofs.{statementHolds, proofHolds};
 ghost use Rattle.statements.specs.Values.{Ready};
 ghost use Rattle.statements.specs.Claims.{claimOf, Within};
@@ -29,7 +29,7 @@ fn statement_at(
     requires { ⌜ Ready g ⌝ }
     requires { ⌜ place + 12 ≤ length (now board) ⌝ }
     requires { ⌜ Within (now board) (now inverses) (parametersOf (g .group)) n claim l i ⌝ }
-    ensures { λ r. ⌜ r ≡ statementHolds (g .group .p) (g .group .g0 .0) (g .group .g1 .0) (claimOf (now (board .entry)) (parametersOf (g .group)) n claim l i) (word (now (board .entry)) place) (word (now (board .entry)) (place + 4)) (e .0) (word (now (board .entry)) (place + 8)) ⌝ }
+    ensures { λ r. ⌜ r ≡ statementHolds (g .group .p) (g .group .g0 .0) (g .group .g1 .0) (claimOf (now (board .entry)) (parametersOf (g .group)) n claim l i) (number4 (now (board .entry)) place) (number4 (now (board .entry)) (place + 4)) (e .0) (number4 (now (board .entry)) (place + 8)) ⌝ }
 {
     let st = claims::claimed(board, inverses, g, n, claim, l, i);
     let t1 = fields::as_element(board, place);

@@ -4,7 +4,7 @@ use mathlib.Core.List.{List}
 use mathlib.Core.Bool.{Bool, true, false}
 use lib.Dec.{leb}
 use lib.ListN.{length}
-use Rattle.rules.specs.Bytes.{word}
+use Rattle.rules.specs.Bytes.{number4}
 use Rattle.testing.specs.declared.input.Piece.{Piece}
 use Rattle.testing.specs.declared.input.Piece.the-variants as P
 
@@ -16,4 +16,4 @@ pieceIf false p = P.Missing
 abbrev pub pieceAt : (s : List ℕ) (at : ℕ) → Piece
 pieceAt s at =
     pieceIf (leb (at + 4) (length s))
-    (pieceIf (leb (at + 4 + word s at) (length s)) (P.Bytes (at + 4) (at + 4 + word s at)))
+    (pieceIf (leb (at + 4 + number4 s at) (length s)) (P.Bytes (at + 4) (at + 4 + number4 s at)))

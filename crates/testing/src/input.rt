@@ -47,7 +47,7 @@ pub fn piece_at(s: &[u8], at: usize) -> Piece
         return Piece::Missing;
     }
     let start = at + 4;
-    let length = fields::word(s, at) as usize;
+    let length = fields::number4(s, at) as usize;
     if s.len() - start < length {
         return Piece::Missing;
     }

@@ -1,1 +1,2 @@
+-- How a digest is spelled.
 pub mod Text

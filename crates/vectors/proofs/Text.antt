@@ -1,4 +1,4 @@
--- The law of `hexadecimal`'s loop. Assumes nothing.
+-- The law of `hexadecimal`'s loop.
 use mathlib.Core.Path.{_≡_, refl, ap}
 use mathlib.Core.List.{List, [], _∷_, _++_}
 use Prim.Native.Nat.{ℕ, _+_, _*_, _/_, _%_, _≤_, _<_}

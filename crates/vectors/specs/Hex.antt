@@ -1,4 +1,4 @@
--- Bytes as text. Assumes nothing.
+-- Bytes as text.
 use Prim.Native.Nat.{ℕ}
 use mathlib.Core.List.{List, [], _∷_, _++_}
 use Rattle.io.specs.Digits.{digits}

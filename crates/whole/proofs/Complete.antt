@@ -15,7 +15,7 @@ use mathlib.Core.Bool.{true, and-eq-true-iff}
 use mathlib.Core.List.{List, [], _∷_, _++_}
 use lib.ListN.{length, getD, length-append}
 use borrow.Author.Tests.{le-leb, ltb-true}
-use Rattle.rules.specs.Bytes.{half, word, part, bytes2, bytes4, Stands}
+use Rattle.rules.specs.Bytes.{number2, number4, part, bytes2, bytes4, Stands}
 use Rattle.group.specs.Elements.{Parameters, isElement}
 use Rattle.rules.specs.Group.{generators, derived}
 use Rattle.group.specs.Arithmetic.{powMod}
@@ -61,15 +61,15 @@ module _ (hash : List ℕ → List ℕ) (job : Job) (f : Fine hash job) where
   unfolding board
   read-counter = refl
 
-  read-K : half s 3 ≡ job .K
+  read-K : number2 s 3 ≡ job .K
   unfolding board
   read-K = half-stands (omega (arith, f .K-high)) (stands-left (bytes2 (job .K)) _ (stands-right (72 ∷ 68 ∷ job .n ∷ []) _ refl (stands-whole s)))
 
-  read-p : word s 5 ≡ job .p
+  read-p : number4 s 5 ≡ job .p
   unfolding board
   read-p = word-stands (omega (arith, good .small)) (stands-left (bytes4 (job .p)) _ (stands-right (72 ∷ 68 ∷ job .n ∷ bytes2 (job .K)) _ refl (stands-whole s)))
 
-  read-q : word s 9 ≡ job .q
+  read-q : number4 s 9 ≡ job .q
   unfolding board
   read-q = word-stands (omega (arith, good)) (stands-left (bytes4 (job .q)) _ (stands-right (72 ∷ 68 ∷ job .n ∷ bytes2 (job .K) ++ bytes4 (job .p)) _ refl (stands-whole s)))
 
@@ -77,13 +77,13 @@ module _ (hash : List ℕ → List ℕ) (job : Job) (f : Fine hash job) where
   unfolding generators isElement
   g0-below = let w = simp and-eq-true-iff at (f .generated) in ltb-true (job .g0) (job .p) (w .0 .0 .0 .0 .0 .0 .1)
 
-  read-g0 : word s 13 ≡ job .g0
+  read-g0 : number4 s 13 ≡ job .g0
   unfolding board
   read-g0 =
       word-stands (omega (arith, g0-below, good .small))
       (stands-left (bytes4 (job .g0)) _ (stands-right (72 ∷ 68 ∷ job .n ∷ bytes2 (job .K) ++ bytes4 (job .p) ++ bytes4 (job .q)) _ refl (stands-whole s)))
 
-  read-g1 : word s 18 ≡ g .g1
+  read-g1 : number4 s 18 ≡ g .g1
   unfolding board derived powMod
   read-g1 =
       let small : g .g1 < job .p = mod-lt _ (omega (arith, good .large)) in

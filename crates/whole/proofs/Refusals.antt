@@ -12,7 +12,7 @@ use Rattle.rules.specs.Records.{roundAt}
 use Rattle.rules.specs.Group.{sizes}
 use Rattle.rules.specs.Count.{countsOf, countFrom, plainCount, member, Standing, start, next, closes, isRanking}
 use Rattle.jobs.specs.Job.{Job, rankingOf}
-use Rattle.jobs.specs.Write.{rankingsGood, jobFault, firstBad, which, boardWritten, jobRefused, writeOutcome}
+use Rattle.jobs.specs.Write.{rankingsGood, jobFault, firstBad, badRanking, boardWritten, jobRefused, writeOutcome}
 use Rattle.numbers.proofs.Search.{extend}
 use Rattle.rules.specs.Check.{refused, Test, firstFault, Header, header, sheetFields, sheetFault, headerFault, recordFault, checkBoard}
 use Rattle.whole.specs.Refusals.{BoardRefusal, JobRefusal, Refusals}
@@ -166,8 +166,8 @@ few-rankings hash job room z =
     (λ e. let w = simp and-eq-true-iff at e in leb-true (job .K) 1000 (w .1))
     (λ e. absurd (omega (arith, rw e at z)))
 
-job-named : (hash : List ℕ → List ℕ) (job : Job) (room : ℕ) → (jobFault hash job room ≡ 0 → ⊥) → JobRefusal job (jobFault hash job room) (which job (jobFault hash job room))
-unfolding which member
+job-named : (hash : List ℕ → List ℕ) (job : Job) (room : ℕ) → (jobFault hash job room ≡ 0 → ⊥) → JobRefusal job (jobFault hash job room) (badRanking job (jobFault hash job room))
+unfolding badRanking member
 job-named hash job room ne =
     let fault = jobFault hash job room in
     record {

@@ -26,7 +26,7 @@ use Rattle.whole.proofs.SecondDemand.{second-demand}
 use Rattle.whole.proofs.Sound.Accepted.{Marked, round-marked, GoodHeader, header-good, firstB, firstY}
 use Rattle.whole.proofs.Sound.Tally.{counted}
 use Rattle.rules.specs.Count.{Standing, start, next, leaves, closes, table, firstIn, votesFor, countsOf, ended, countFrom, plainCount}
-use Rattle.jobs.specs.Job.{standing}
+use Rattle.jobs.specs.Job.{remaining}
 use Rattle.rules.specs.Openings.{Opening, listAt, Opens}
 
 one-vote : (b : Bool) → cond b 1 0 ≤ 1
@@ -53,7 +53,7 @@ module _ (hash : List ℕ → List ℕ) (s : List ℕ) (rankings : ℕ → List 
     early : suc m < h .n
     sheets : st .sheets ≡ table m countsAt
     outs : st .gone ≡ table m (outField s h)
-    lists : (k : ℕ) → listAt s rankings m k ≡ standing (st .gone) (rankings k)
+    lists : (k : ℕ) → listAt s rankings m k ≡ remaining (st .gone) (rankings k)
     earlier : (m′ : ℕ) → m′ < m → Sheeted m′
 
   sheets-counted : (m : ℕ) (st : Standing) → Reached m st → length (st .sheets) ≡ m

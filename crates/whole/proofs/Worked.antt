@@ -19,7 +19,7 @@ use Rattle.group.specs.Elements.{isElement}
 use Rattle.rules.specs.Group.{orders, derived, generators}
 use Rattle.rules.specs.Proofs.{statementHolds}
 use Rattle.rules.specs.Records.{roundAt}
-use Rattle.rules.specs.Count.{Standing, roundOf, start, member, countOf, leaves, lowest, majority, closes, isRanking, table, plainCount}
+use Rattle.rules.specs.Count.{Standing, roundNumber, start, member, countOf, leaves, lowest, majority, closes, isRanking, table, plainCount}
 use Rattle.rules.specs.Openings.{without}
 use Rattle.jobs.specs.Job.{needed, roundDraws, boardLength}
 use Rattle.jobs.specs.Write.{Valid}
@@ -58,18 +58,18 @@ one-out = (refl, refl)
 abbrev over-half : Standing → (counts : List ℕ) (i : ℕ) → Bool
 over-half st counts i = not (member (suc i) (st .gone)) && ltb 60 (2 * countOf counts (suc i))
 
-half-open : (n : ℕ) (st : Standing) (counts : List ℕ) → roundOf st < n - 1 → ((i : ℕ) → i < n → countOf counts (suc i) ≤ 30) → closes n st counts 60 ≡ false
+half-open : (n : ℕ) (st : Standing) (counts : List ℕ) → roundNumber st < n - 1 → ((i : ℕ) → i < n → countOf counts (suc i) ≤ 30) → closes n st counts 60 ≡ false
 unfolding closes majority
 half-open n st counts early few =
     rw (
-      ne-eqb (roundOf st) (n - 1) (λ e. omega arith),
+      ne-eqb (roundNumber st) (n - 1) (λ e. omega arith),
       any-fails n (over-half st counts) (λ i l. rw (le-ltb 60 (2 * countOf counts (suc i)) (omega (arith, few i l))) (and-false (not (member (suc i) (st .gone))))),
     )
 
 more-closes : (n i : ℕ) (st : Standing) (counts : List ℕ) → i < n → member (suc i) (st .gone) ≡ false → countOf counts (suc i) ≡ 31 → closes n st counts 60 ≡ true
 unfolding closes majority
 more-closes n i st counts l still e =
-    rw (any-holds n i (over-half st counts) l (rw (still, e))) (or-true (eqb (roundOf st) (n - 1)))
+    rw (any-holds n i (over-half st counts) l (rw (still, e))) (or-true (eqb (roundNumber st) (n - 1)))
 
 two-struck : without 1 (without 4 (4 ∷ 2 ∷ 1 ∷ 3 ∷ [])) ≡ 2 ∷ 3 ∷ []
 unfolding without

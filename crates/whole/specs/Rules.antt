@@ -7,7 +7,7 @@ use lib.ListN.{length, getD}
 use Rattle.numbers.specs.Below.{sumBelow, prodBelow}
 use Rattle.group.specs.Arithmetic.{mulMod, powMod}
 use Rattle.group.specs.Elements.{isElement, Parameters}
-use Rattle.rules.specs.Bytes.{half, word}
+use Rattle.rules.specs.Bytes.{number2, number4}
 use Rattle.rules.specs.Group.{paired, sizes, orders, generators}
 use Rattle.rules.specs.Records.{HD, BA, SH, RT, hasMark, headerLength, recordLength, sheetLength}
 use Rattle.rules.specs.Proofs.{Statement, branchAt, statementAt, commitments, challenge}
@@ -24,16 +24,16 @@ pub record PairRules (g : Parameters) (rows n : ℕ) (M : Matrix) : Type 0 where
 module _ (s : List ℕ) (g : Parameters) (at branches statements : ℕ) where
   -- branch l's challenge; of its statement i the commitments and the response
   abbrev pub e : (l : ℕ) → ℕ
-  e l = word s (branchAt at statements l)
+  e l = number4 s (branchAt at statements l)
 
   abbrev pub t1 : (l i : ℕ) → ℕ
-  t1 l i = word s (statementAt at statements l i)
+  t1 l i = number4 s (statementAt at statements l i)
 
   abbrev pub t2 : (l i : ℕ) → ℕ
-  t2 l i = word s (statementAt at statements l i + 4)
+  t2 l i = number4 s (statementAt at statements l i + 4)
 
   abbrev pub r : (l i : ℕ) → ℕ
-  r l i = word s (statementAt at statements l i + 8)
+  r l i = number4 s (statementAt at statements l i + 8)
 
   -- 7: "no group element (.. t1, t2), or .. e, r ≥ q"
   pub record ProofFields : Type 0 where
@@ -70,7 +70,7 @@ module _ (hash : List ℕ → List ℕ) (s : List ℕ) where
       -- 2
       pub marked : hasMark s (place h 0 k) BA ≡ true
       -- 6: "number or round not the one due"
-      pub numbered : half s (place h 0 k + 2) ≡ k + 1
+      pub numbered : number2 s (place h 0 k + 2) ≡ k + 1
       -- 7: "n² pairs (b 4, Y 4) by rows; n² entry, n row, n column proofs"
       pub pairs : PairRules (h .group) (h .n) (h .n) (matrix s h 0 k)
       pub entry-fields : (i j : ℕ) → i < h .n → j < h .n → ProofFields s (h .group) (entryProof s h k i j) 2 1
@@ -88,7 +88,7 @@ module _ (hash : List ℕ → List ℕ) (s : List ℕ) where
       -- 1, 2 and 6
       pub fits : place h (suc m) k + recordLength (h .n) (suc m) ≤ length s
       pub marked : hasMark s (place h (suc m) k) SH ≡ true
-      pub numbered : half s (place h (suc m) k + 2) ≡ k + 1
+      pub numbered : number2 s (place h (suc m) k + 2) ≡ k + 1
       -- 7: "R × n pairs; one shift proof", of "R+1 branches"
       pub pairs : PairRules (h .group) (h .n - suc m) (h .n) (matrix s h (suc m) k)
       pub proof-fields : ProofFields s (h .group) (shiftProof s h (suc m) k) (h .n - suc m + 1) (2 + (h .n - suc m) * h .n)

@@ -9,7 +9,7 @@ use Rattle.group.specs.Arithmetic.{mulMod, powMod}
 use Rattle.group.specs.Elements.{Parameters}
 use Rattle.rules.specs.Group.{paired, derived}
 use Rattle.rules.specs.Proofs.{statementHolds}
-use Rattle.rules.specs.Count.{Standing, roundOf, start, member, countOf, leaves, closes, plainCount}
+use Rattle.rules.specs.Count.{Standing, roundNumber, start, member, countOf, leaves, closes, plainCount}
 use Rattle.rules.specs.Check.{accepted, checkBoard}
 use Rattle.rules.specs.Openings.{Opening, without}
 use Rattle.jobs.specs.Job.{Job, needed}
@@ -54,7 +54,7 @@ pub record Worked : Type 0 where
   -- "Counts 8, 17, 16, 19 of 60: 1 goes out"
   pub goes-out : (closes 4 start (8 ∷ 17 ∷ 16 ∷ 19 ∷ []) 60 ≡ false) × (leaves 4 start (8 ∷ 17 ∷ 16 ∷ 19 ∷ []) ≡ 1)
   -- "Before round n−1, 30 of 60 does not close, 31 does", whoever has gone out
-  pub half : (n : ℕ) (st : Standing) (counts : List ℕ) → roundOf st < n - 1 → ((i : ℕ) → i < n → countOf counts (suc i) ≤ 30) → closes n st counts 60 ≡ false
+  pub half : (n : ℕ) (st : Standing) (counts : List ℕ) → roundNumber st < n - 1 → ((i : ℕ) → i < n → countOf counts (suc i) ≤ 30) → closes n st counts 60 ≡ false
   pub more : (n i : ℕ) (st : Standing) (counts : List ℕ) → i < n → member (suc i) (st .gone) ≡ false → countOf counts (suc i) ≡ 31 → closes n st counts 60 ≡ true
   -- "Ranking (4, 2, 1, 3) without 4, then 1, is (2, 3)"
   pub struck : without 1 (without 4 (4 ∷ 2 ∷ 1 ∷ 3 ∷ [])) ≡ 2 ∷ 3 ∷ []

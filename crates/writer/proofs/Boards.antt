@@ -1,4 +1,4 @@
--- The board that is written is the job's. Assumes nothing.
+-- The board that is written is the job's.
 use Prim.Native.Nat.{ℕ, _+_, _*_, _≤_, _<_}
 use mathlib.Core.Path.{_≡_, sym, ap, subst, _∙_}
 use mathlib.Core.Bool.{and-eq-true-iff, true}
@@ -7,10 +7,10 @@ use native.Mathlib.Omega.{arith}
 use borrow.Author.Tests.{eqb-true, leb-true}
 use lib.Dec.{leb, eqb}
 use lib.ListN.{length, drop, length-append}
-use Rattle.numbers.specs.Below.{blocks}
+use Rattle.numbers.specs.Below.{concatBelow}
 use Rattle.sha256.specs.Message.{sha256}
 use Rattle.group.specs.Elements.{Parameters}
-use Rattle.rules.specs.Answers.{padded}
+use Rattle.rules.specs.Answers.{withZeros}
 use Rattle.rules.specs.Records.{roundAt}
 use Rattle.rules.specs.Count.{Result, table}
 use Rattle.jobs.specs.Job.{Job, groupOf, rankingOf, needed, boardLength, plainResult, roundDraws}
@@ -27,9 +27,9 @@ use Rattle.plain.proofs.Sheets.{sheets-are}
 use Rattle.plain.specs.declared.rounds.Measure.{Measure}
 use Rattle.output.specs.Written.{written}
 use Rattle.boards.specs.declared.Size.{Size}
-use Rattle.boards.specs.Parts.{boardJob, Able, Sheeted, roundOf}
+use Rattle.boards.specs.Parts.{boardJob, Writable, Sheeted, roundBytes}
 use Rattle.boards.proofs.Walk.{rounds-are, few-rounds, goes-out, left, struck-below}
-use Rattle.boards.proofs.Stages.{length-rounds, length-header, place-least}
+use Rattle.boards.proofs.RoundPlans.{length-rounds, length-header, place-least}
 use Rattle.writer.specs.Steps.{Measured, bytesOf}
 use Rattle.writer.proofs.Outcomes.{Answered}
 use Rattle.rules.specs.Count.{isRanking}
@@ -52,7 +52,7 @@ module _ (job : Job) (v : Valid sha256 job) where
   ranked : (k : ℕ) → k < job .K → isRanking (job .n) (rankingOf job k) ≡ true
   ranked = fine sha256 job v .ranked
 
-  able : (order : List ℕ) (rounds : ℕ) → order ≡ padded (plainResult job .order) → rounds ≡ plainResult job .rounds → roundDraws (job .n) (job .K) rounds ≤ 10000000 → Able job order rounds
+  able : (order : List ℕ) (rounds : ℕ) → order ≡ withZeros (plainResult job .order) → rounds ≡ plainResult job .rounds → roundDraws (job .n) (job .K) rounds ≤ 10000000 → Writable job order rounds
   unfolding needed
   able order rounds eo er low =
       let f = fine sha256 job v in
@@ -87,7 +87,7 @@ module _ (job : Job) (v : Valid sha256 job) where
 
   -- the bytes that were written are the board
   abbrev made : List ℕ
-  made = bytesFor job (groupOf sha256 job) (padded (plainResult job .order)) (plainResult job .rounds)
+  made = bytesFor job (groupOf sha256 job) (withZeros (plainResult job .order)) (plainResult job .rounds)
 
   is-board : made ≡ board sha256 job
   unfolding board boardBytes
@@ -97,9 +97,9 @@ module _ (job : Job) (v : Valid sha256 job) where
   unfolding boardLength
   made-long =
       let G = groupOf sha256 job in
-      let B = blocks (plainResult job .rounds) (roundOf sha256 job G (padded (plainResult job .order))) in
+      let B = concatBelow (plainResult job .rounds) (roundBytes sha256 job G (withZeros (plainResult job .order))) in
       let head : length (headerBytes sha256 job G) ≡ 54 = length-header (job .label) (fine sha256 job v .labelled) in
-      omega (arith, length-append (headerBytes sha256 job G) B, length-rounds sha256 job G (padded (plainResult job .order)) (plainResult job .rounds))
+      omega (arith, length-append (headerBytes sha256 job G) B, length-rounds sha256 job G (withZeros (plainResult job .order)) (plainResult job .rounds))
 
   -- by the count and the measure of the job, and a group that is its own
   module _ (c : Ended) (m : Measure) (w : Measured job c m) (g : Parameters) (e : g ≡ groupOf sha256 job) where
@@ -110,14 +110,14 @@ module _ (job : Job) (v : Valid sha256 job) where
     unfolding resultOf
     rounds-counted = ap (λ (r : Result). r .rounds) (w .counted)
 
-    order-counted : c .count .gone .order ≡ padded (plainResult job .order)
+    order-counted : c .count .gone .order ≡ withZeros (plainResult job .order)
     unfolding resultOf
-    order-counted = padded-order (c .count .gone) (w .kept .listed) ∙ ap (λ (r : Result). padded (r .order)) (w .counted)
+    order-counted = padded-order (c .count .gone) (w .kept .listed) ∙ ap (λ (r : Result). withZeros (r .order)) (w .counted)
 
-    pub can : Able (boardJob (size job) g (job .label) (job .rankings) (job .draws)) (c .count .gone .order) rounds
+    pub can : Writable (boardJob (size job) g (job .label) (job .rankings) (job .draws)) (c .count .gone .order) rounds
     unfolding needed
     can =
-        subst (λ (x : Parameters). Able (boardJob (size job) x (job .label) (job .rankings) (job .draws)) (c .count .gone .order) rounds) (sym e)
+        subst (λ (x : Parameters). Writable (boardJob (size job) x (job .label) (job .rankings) (job .draws)) (c .count .gone .order) rounds) (sym e)
         (able (c .count .gone .order) rounds order-counted rounds-counted (rw (rounds-counted, ← (w .needed)) (w .small)))
 
     pub sheeted : Sheeted (boardJob (size job) g (job .label) (job .rankings) (job .draws)) (c .count)

@@ -1,2 +1,3 @@
+-- What a job comes to, and the board that is written.
 pub mod Outcomes
 pub mod Boards

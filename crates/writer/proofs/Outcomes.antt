@@ -1,4 +1,4 @@
--- The tests of a job in turn, and what its reply and its output then are. Assumes nothing.
+-- The tests of a job in turn, and what its reply and its output then are.
 use Prim.Native.Nat.{ℕ, zero, suc, _+_, _*_, _≤_, _<_}
 use mathlib.Core.Path.{_≡_, refl, sym, ap, _∙_}
 use mathlib.Core.Bool.{Bool, true, false, _&&_, and-eq-true-iff}
@@ -16,7 +16,7 @@ use Rattle.rules.specs.Records.{roundAt}
 use Rattle.rules.specs.Count.{Result, isRanking}
 use Rattle.rules.specs.Check.{firstFault}
 use Rattle.jobs.specs.Job.{Job, groupOf, rankingOf, roundDraws, needed, boardLength, plainResult}
-use Rattle.jobs.specs.Write.{labelGood, rankingsGood, drawsGood, jobFault, firstBad, which, jobRefused, writeOutcome, writeOutput, Passed, Valid}
+use Rattle.jobs.specs.Write.{labelGood, rankingsGood, drawsGood, jobFault, firstBad, badRanking, jobRefused, writeOutcome, writeOutput, Passed, Valid}
 use Rattle.jobs.specs.Replies.{outcomeOf, orderWritten}
 use Rattle.jobs.specs.declared.Written.{Written}
 use Rattle.parameters.proofs.Rules.{orders-positive, sizes-bounds}
@@ -91,22 +91,22 @@ module _ (job : Job) where
 
 -- the first test that fails names the refusal
 module _ (job : Job) (out : List ℕ) where
-  stops : (v k : ℕ) → jobFault sha256 job (length out) ≡ suc v → which job (suc v) ≡ k → Stops job out (suc v) k
+  stops : (v k : ℕ) → jobFault sha256 job (length out) ≡ suc v → badRanking job (suc v) ≡ k → Stops job out (suc v) k
   unfolding writeOutcome writeOutput
   stops v k e w =
       let n : eqb (suc v) 0 ≡ false = ne-eqb (suc v) 0 (λ z. omega arith) in
       record { outcome = rw (e, n, w); output = rw (e, n) }
 
-  which-none : (v : ℕ) → (v ≡ 13 → ⊥) → which job v ≡ 0
-  unfolding which
+  which-none : (v : ℕ) → (v ≡ 13 → ⊥) → badRanking job v ≡ 0
+  unfolding badRanking
   which-none v h = rw (ne-eqb v 13 h)
 
-  which-long : (length (job .rankings) ≡ job .K * job .n → ⊥) → which job 13 ≡ 0
-  unfolding which
+  which-long : (length (job .rankings) ≡ job .K * job .n → ⊥) → badRanking job 13 ≡ 0
+  unfolding badRanking
   which-long h = rw (ne-eqb (length (job .rankings)) (job .K * job .n) h)
 
-  which-bad : length (job .rankings) ≡ job .K * job .n → which job 13 ≡ firstBad job (job .K)
-  unfolding which
+  which-bad : length (job .rankings) ≡ job .K * job .n → badRanking job 13 ≡ firstBad job (job .K)
+  unfolding badRanking
   which-bad h = rw (eq-eqb (length (job .rankings)) (job .K * job .n) h)
 
   pub stops-sizes : sizes (job .n) (job .K) ≡ false → Stops job out 3 0
@@ -124,7 +124,7 @@ module _ (job : Job) (out : List ℕ) where
       stops-label c = stops 4 0 (rw (a, b, c)) (which-none 5 (λ e. omega arith))
 
       module _ (c : labelGood sha256 job ≡ true) where
-        stops-rankings : rankingsGood job ≡ false → (k : ℕ) → which job 13 ≡ k → Stops job out 13 k
+        stops-rankings : rankingsGood job ≡ false → (k : ℕ) → badRanking job 13 ≡ k → Stops job out 13 k
         unfolding jobFault firstFault
         stops-rankings d k w = stops 12 k (rw (a, b, c, d)) w
 

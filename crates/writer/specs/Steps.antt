@@ -4,7 +4,7 @@ use mathlib.Core.Path.{_≡_}
 use mathlib.Core.Bool.{Bool, true, false}
 use mathlib.Core.List.{List, _++_}
 use lib.ListN.{length}
-use Rattle.numbers.specs.Below.{blocks}
+use Rattle.numbers.specs.Below.{concatBelow}
 use Rattle.sha256.specs.Message.{sha256}
 use Rattle.group.specs.Elements.{Parameters, parametersOf}
 use Rattle.rules.specs.Answers.{refusalNumber}
@@ -15,10 +15,10 @@ use Rattle.output.specs.Written.{written}
 use Rattle.count.specs.State.{resultOf, Kept}
 use Rattle.count.specs.declared.Ended.{Ended}
 use Rattle.plain.specs.declared.rounds.Measure.{Measure}
-use Rattle.boards.specs.Parts.{boardJob, roundOf}
+use Rattle.boards.specs.Parts.{boardJob, roundBytes}
 use Rattle.boards.specs.declared.Size.{Size}
-use Rattle.writer.specs.declared.tests.Tested.{Tested}
-use Rattle.writer.specs.declared.tests.Tested.the-variants.{Sound, Refused}
+use Rattle.writer.specs.declared.validity.Tested.{Tested}
+use Rattle.writer.specs.declared.validity.Tested.the-variants.{Sound, Refused}
 
 -- the job is refused with a number and which, and the output stays as it is
 pub record Stops (job : Job) (out : List ℕ) (number which : ℕ) : Type 0 where
@@ -26,9 +26,9 @@ pub record Stops (job : Job) (out : List ℕ) (number which : ℕ) : Type 0 wher
   pub output : writeOutput sha256 job out ≡ out
 
 -- what the tests up to the rankings tell: the job's group, or the refusal, whatever the output
-unfoldable pub Told : Job → Tested → Type 0
-Told job (Sound g) = Passed sha256 job × (parametersOf g ≡ groupOf sha256 job)
-Told job (Refused refusal k) = (out : List ℕ) → Stops job out (refusalNumber refusal) k
+unfoldable pub JobTested : Job → Tested → Type 0
+JobTested job (Sound g) = Passed sha256 job × (parametersOf g ≡ groupOf sha256 job)
+JobTested job (Refused refusal k) = (out : List ℕ) → Stops job out (refusalNumber refusal) k
 
 -- the count and the measure of a job
 pub record Measured (job : Job) (e : Ended) (m : Measure) : Type 0 where
@@ -41,7 +41,7 @@ pub record Measured (job : Job) (e : Ended) (m : Measure) : Type 0 where
 -- the bytes of a board of so many rounds, in whose rounds processes go out in an order
 abbrev pub bytesOf : Size → Parameters → (label rankings draws order : List ℕ) (rounds : ℕ) → List ℕ
 bytesOf size g label rankings draws order rounds =
-    headerBytes sha256 (boardJob size g label rankings draws) g ++ blocks rounds (roundOf sha256 (boardJob size g label rankings draws) g order)
+    headerBytes sha256 (boardJob size g label rankings draws) g ++ concatBelow rounds (roundBytes sha256 (boardJob size g label rankings draws) g order)
 
 -- the output has room for so many bytes, and they are written; or it has not, and stays as it is
 abbrev pub Put : (size : ℕ) (bytes before after : List ℕ) → Bool → Type 0

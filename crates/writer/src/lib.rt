@@ -1,5 +1,5 @@
 // The writer: a board made from rankings and draws.
-use crate::tests::Tested;
+use crate::validity::Tested;
 use boards::Size;
 use boards::rounds;
 use count::Count;
@@ -20,11 +20,11 @@ ghost use Rattle.jobs.specs.Write.{boardWritten, jobRefused, writeOutcome, writ
 ghost use Rattle.jobs.specs.Replies.{outcomeOf, orderWritten};
 ghost use Rattle.statements.specs.Values.{Ready};
 ghost use Rattle.count.specs.State.{listOf, Kept};
-ghost use Rattle.boards.specs.Parts.{boardJob, Able, Sheeted};
+ghost use Rattle.boards.specs.Parts.{boardJob, Writable, Sheeted};
 ghost use Rattle.writer.specs.Jobs.{jobOf};
 ghost use Rattle.writer.specs.Steps.{bytesOf, Put};
 
-mod tests;
+mod validity;
 
 // The numbers of a job: of processes and ballots, p, q, g0 and the counter.
 pub struct Job {
@@ -72,7 +72,7 @@ fn put_board(
     count: Count,
     room: usize,
 ) -> bool
-    requires { ⌜ Ready g × Able (boardJob size (parametersOf (g .group)) (now label) (now rankings) (now draws)) (count .gone .order) (count .gone .outs + 1) × Sheeted (boardJob size (parametersOf (g .group)) (now label) (now rankings) (now draws)) count × (length (now label) ≡ 32) ⌝ }
+    requires { ⌜ Ready g × Writable (boardJob size (parametersOf (g .group)) (now label) (now rankings) (now draws)) (count .gone .order) (count .gone .outs + 1) × Sheeted (boardJob size (parametersOf (g .group)) (now label) (now rankings) (now draws)) count × (length (now label) ≡ 32) ⌝ }
     requires { ⌜ (headerLength ≤ room) × (roundAt (size .n) (size .k) (count .gone .outs + 1) ≤ room) ⌝ }
     ensures { λ r. ⌜ Put room (bytesOf size (parametersOf (g .group)) (now (label .entry)) (now (rankings .entry)) (now (draws .entry)) (count .gone .order) (count .gone .outs + 1)) (now (out .entry)) (now (out .exit)) r ⌝ }
 {
@@ -89,7 +89,7 @@ pub fn write(job: Job, label: &[u8], rankings: &[u8], draws: &[u32], out: &mut [
     ensures { λ r. ⌜ r .order ≡ orderWritten (writeOutcome sha256 (jobOf job (now (label .entry)) (now (rankings .entry)) (now (draws .entry))) (length (now (out .entry)))) ⌝ }
     ensures { λ _. ⌜ now (out .exit) ≡ writeOutput sha256 (jobOf job (now (label .entry)) (now (rankings .entry)) (now (draws .entry))) (now (out .entry)) ⌝ }
 {
-    let tested = tests::up_to_rankings(job, label, rankings);
+    let tested = validity::up_to_rankings(job, label, rankings);
     let g = match tested {
         Tested::Sound(g) => g,
         Tested::Refused(refusal, which) => return refused(refusal, which),
@@ -97,7 +97,7 @@ pub fn write(job: Job, label: &[u8], rankings: &[u8], draws: &[u32], out: &mut [
     let ended = plain::rounds::count(rankings, job.n, job.k);
     let count = ended.count;
     let m = plain::rounds::measure_of(job.n, job.k, count.gone.outs + 1);
-    if !tests::draws_good(draws, m.needed, job.q) {
+    if !validity::draws_good(draws, m.needed, job.q) {
         return refused(Refusal::Draws, 0);
     }
     let size = Size {

@@ -1,4 +1,3 @@
--- `run` is safe and ends: each frame ends behind its start, within the input. Assumes nothing.
 use denote.Ref.{now}
 use Prim.Native.Nat.{_+_, _-_, _≤_}
 use mathlib.Core.Path.{_≡_, sym, _∙_}

@@ -1,6 +1,3 @@
--- `check` meets its contract: a walk of its MIR, by hand. A `Reading` is made, held in a local, copied for `header_of`, moved past the header, and passed to `verdict_of` with what was opened. All that the proof knows of the four callees is that each meets its contract.
--- A machine value that a call returns is stored and passed on as it is. In a local of a body MIR erases the lifetime of the struct's type, so the value is shown to have the type at `erased`: what the struct owns does not say the lifetime's name.
--- Assumes nothing.
 use mathlib.Core.Path.{_≡_, refl}
 use Prim.Native.Nat.{ℕ, _≤_}
 use mathlib.Core.List.{List, [], _∷_}
@@ -45,10 +42,10 @@ use Rattle.rules.specs.Answers.{verdictOf, orderOf}
 use Rattle.rules.specs.declared.Checked.{Checked}
 use Rattle.rules.proofs.Checked as R
 use Rattle.rules.proofs.Checked.Laws as R′
-use Rattle.records.specs.Heads.{Opening}
-use Rattle.records.specs.declared.header.Opened.{Opened}
-use Rattle.records.proofs.header.Opened as S
-use Rattle.records.proofs.header.Opened.Laws as S′
+use Rattle.records.specs.Heads.{HeaderReads}
+use Rattle.records.specs.declared.header.HeaderRead.{HeaderRead}
+use Rattle.records.proofs.header.HeaderRead as S
+use Rattle.records.proofs.header.HeaderRead.Laws as S′
 use Rattle.checker.specs.declared.reading.Reading.{Reading}
 use Rattle.checker.proofs.reading.Reading as T
 use Rattle.checker.proofs.reading.Reading.Laws as T′
@@ -145,8 +142,8 @@ module _ {M : Type 1} (𝓤 : URA M) (H : Heap 𝓤) (A : Atoms 𝓤) (W : Given
   goes-head : (u : Val) → ent 𝓤 (⋆ 𝓤 H A ((‵ (flft κ q) ⊛ ‵ ftrue) ∷ ‵ (Had r₀ u) ∷ [])) (HeaderOf 𝓤 H A mem run .pre (to-head u))
   goes-head u = qed W ((‵ (flft κ q) ⊛ ‵ ftrue) ∷ ‵ (Had r₀ u) ∷ []) ∵ says ! within $ frame ! $ nothing ! $ move ! (1 ∷ 0 ∷ []) $ fjoin ! $ done !
 
-  head-said : (o : Opened) → ent 𝓤 (ensured 𝓤 H A head.ended (head.clauses 𝓤 H A mem run) (κ, tt) (r₀, tt) tt o) (fact 𝓤 (Opening (now s) o))
-  head-said o = exE 𝓤 _ (λ ws. snd∗ 𝓤 (sem 𝓤 H A (lasts head.ended (κ, tt) (r₀, tt) ws)) (fact 𝓤 (Opening (now s) o)))
+  head-said : (o : HeaderRead) → ent 𝓤 (ensured 𝓤 H A head.ended (head.clauses 𝓤 H A mem run) (κ, tt) (r₀, tt) tt o) (fact 𝓤 (HeaderReads (now s) o))
+  head-said o = exE 𝓤 _ (λ ws. snd∗ 𝓤 (sem 𝓤 H A (lasts head.ended (κ, tt) (r₀, tt) ws)) (fact 𝓤 (HeaderReads (now s) o)))
 
   -- the call of `moved`
   abbrev to-moved : Val → Moved 𝓤 H A mem run .Ghost
@@ -161,15 +158,15 @@ module _ {M : Type 1} (𝓤 : URA M) (H : Heap 𝓤) (A : Atoms 𝓤) (W : Given
   moved-said m = exE 𝓤 _ (λ ws. snd∗ 𝓤 (sem 𝓤 H A (lasts moved.ended (κ, tt) (r₀, (54, tt)) ws)) (fact 𝓤 ((m .board ≡ s) × (m .next ≡ 54))))
 
   -- the call of `verdict_of`, at what was opened, o, with the machine value w
-  abbrev to-judge : Opened → Val → Val → VerdictOf 𝓤 H A mem run .Ghost
+  abbrev to-judge : HeaderRead → Val → Val → VerdictOf 𝓤 H A mem run .Ghost
   to-judge o w u = (((κ, tt), (q, tt), tt, (r₁, (o, tt)), (u ∷ [], (w ∷ [], tt))), tt)
 
-  goes-judge : (o : Opened) (w u : Val) → Is S.the-row o (w ∷ []) → Opening (now s) o → ent 𝓤 (⋆ 𝓤 H A ((‵ (flft κ q) ⊛ ‵ ftrue) ∷ ‵ (Had r₁ u) ∷ [])) (VerdictOf 𝓤 H A mem run .pre (to-judge o w u))
-  goes-judge o w u is-o opened =
-      qed W ((‵ (flft κ q) ⊛ ‵ ftrue) ∷ ‵ (Had r₁ u) ∷ []) ∵ says ! (opened, refl) $ frame ! $
+  goes-judge : (o : HeaderRead) (w u : Val) → Is S.the-row o (w ∷ []) → HeaderReads (now s) o → ent 𝓤 (⋆ 𝓤 H A ((‵ (flft κ q) ⊛ ‵ ftrue) ∷ ‵ (Had r₁ u) ∷ [])) (VerdictOf 𝓤 H A mem run .pre (to-judge o w u))
+  goes-judge o w u is-o read =
+      qed W ((‵ (flft κ q) ⊛ ‵ ftrue) ∷ ‵ (Had r₁ u) ∷ []) ∵ says ! (read, refl) $ frame ! $
       nothing ! $ owned ! S.the-row (Is S.the-row) (EL.makes S.the-type S′.the-plain 𝓤 H A) o _ is-o $ fjoin ! $ move ! (1 ∷ 0 ∷ []) $ fjoin ! $ done !
 
-  judge-said : (o : Opened) (c : Checked) → ent 𝓤 (ensured 𝓤 H A judge.ended (judge.clauses 𝓤 H A mem run) (κ, tt) (r₁, (o, tt)) tt c) (fact 𝓤 (Found c))
+  judge-said : (o : HeaderRead) (c : Checked) → ent 𝓤 (ensured 𝓤 H A judge.ended (judge.clauses 𝓤 H A mem run) (κ, tt) (r₁, (o, tt)) tt c) (fact 𝓤 (Found c))
   judge-said o c = exE 𝓤 _ (λ ws. snd∗ 𝓤 (sem 𝓤 H A (lasts judge.ended (κ, tt) (r₁, (o, tt)) ws)) (fact 𝓤 (Found c)))
 
   exits : (c : Checked) (u : Val) → Found c → ent 𝓤 (⋆ 𝓤 H A (‵ (R.the-row .own c (u ∷ [])) ∷ (‵ (flft κ q) ⊛ ‵ ftrue) ∷ ‵ Own ∷ [])) (Post u)
@@ -195,8 +192,8 @@ module _ {M : Type 1} (𝓤 : URA M) (H : Heap 𝓤) (A : Atoms 𝓤) (W : Given
         use1 W (‵ (Had r₀ u₀) ⊛ ‵ (Had r₀ u₀)) (LL.copy (T.the-type (namedLft 1 0 tt (κ, tt))) (T′.the-copy (namedLft 1 0 tt (κ, tt))) 𝓤 H A W .twice r₀ (u₀ ∷ [])) $ split ! $
         move ! (2 ∷ 0 ∷ []) $ use2 W (raw (HeaderOf 𝓤 H A mem run .pre (to-head u₀))) (goes-head u₀) $
         calls-at ! fm (HeaderOf 𝓤 H A mem run) known-head (to-head u₀) (and-then ! (load ! (from ! (stop !)) (look ! 7 refl)) (no-more !)) (λ w.
-        use1 W (later (some (λ (o : Opened). ((‵ (flft κ q) ⊛ ‵ ftrue) ⊛ ‵ (S.the-row .own o (w ∷ []))) ⊛ raw (ensured 𝓤 H A head.ended (head.clauses 𝓤 H A mem run) (κ, tt) (r₀, tt) tt o)))) (id⊢ 𝓤 _) $ await ! tt $ pick ! (λ o.
-        split ! $ move ! (1 ∷ []) $ use1 W (raw (fact 𝓤 (Opening (now s) o))) (head-said o) $ heard ! (Opening (now s) o) (λ opened. split ! $ move ! (1 ∷ []) $
+        use1 W (later (some (λ (o : HeaderRead). ((‵ (flft κ q) ⊛ ‵ ftrue) ⊛ ‵ (S.the-row .own o (w ∷ []))) ⊛ raw (ensured 𝓤 H A head.ended (head.clauses 𝓤 H A mem run) (κ, tt) (r₀, tt) tt o)))) (id⊢ 𝓤 _) $ await ! tt $ pick ! (λ o.
+        split ! $ move ! (1 ∷ []) $ use1 W (raw (fact 𝓤 (HeaderReads (now s) o))) (head-said o) $ heard ! (HeaderReads (now s) o) (λ read. split ! $ move ! (1 ∷ []) $
         peeks ! S.the-row (Is S.the-row) (shows 𝓤 H A S.the-row) o (w ∷ []) (λ is-o. land ! (from ! (stop !)) (init ! 10 refl (EL.lawful S.the-type S′.the-laws 𝓤 H A W tt .typed o _ is-o .0)) $ drop ! $
         -- `moved`: [the token; what the reading owns; what s owns; _6; …]
         assigns ! (of-opd ! (load ! (from ! (stop !)) (look ! 11 refl))) (from ! (stop !)) (init ! 3 refl (typed r₀ u₀ is₀)) $
@@ -207,7 +204,7 @@ module _ {M : Type 1} (𝓤 : URA M) (H : Heap 𝓤) (A : Atoms 𝓤) (W : Given
         split ! $ rewrite ! 1 (λ (h : Reading). ‵ (Had h u₁)) (λ i. record { board = e₁ .0 i; next = e₁ .1 i }) refl $
         move ! (1 ∷ []) $ peeks ! (ReadingAt (κ, tt)) (Is (ReadingAt (κ, tt))) (shows 𝓤 H A (ReadingAt (κ, tt))) r₁ (u₁ ∷ []) (λ is₁. land ! (from ! (stop !)) (init ! 5 refl (typed r₁ u₁ is₁)) $
         -- `verdict_of`: [what the reading owns; the token; what s owns; _6; …]
-        move ! (1 ∷ 0 ∷ []) $ use2 W (raw (VerdictOf 𝓤 H A mem run .pre (to-judge o w u₁))) (goes-judge o w u₁ is-o opened) $
+        move ! (1 ∷ 0 ∷ []) $ use2 W (raw (VerdictOf 𝓤 H A mem run .pre (to-judge o w u₁))) (goes-judge o w u₁ is-o read) $
         calls-at ! fm (VerdictOf 𝓤 H A mem run) known-judge (to-judge o w u₁) (and-then ! (load ! (from ! (stop !)) (look ! 4 refl)) (and-then ! (load ! (from ! (stop !)) (look ! 8 refl)) (no-more !))) (λ u.
         use1 W (later (some (λ (c : Checked). ((‵ (flft κ q) ⊛ ‵ ftrue) ⊛ ‵ (R.the-row .own c (u ∷ []))) ⊛ raw (ensured 𝓤 H A judge.ended (judge.clauses 𝓤 H A mem run) (κ, tt) (r₁, (o, tt)) tt c)))) (id⊢ 𝓤 _) $ await ! tt $ pick ! (λ c.
         split ! $ move ! (1 ∷ []) $ use1 W (raw (fact 𝓤 (Found c))) (judge-said o c) $ heard ! (Found c) (λ e. split ! $ move ! (1 ∷ []) $

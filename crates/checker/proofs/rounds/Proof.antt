@@ -9,13 +9,13 @@ use Rattle.sha256.specs.Message.{sha256}
 use Rattle.rules.specs.Records.{sheetLength}
 use Rattle.rules.specs.Count.{start}
 use Rattle.rules.specs.Check.{accepted, checkFrom, counts}
-use Rattle.rules.specs.Answers.{orderOf, padded}
+use Rattle.rules.specs.Answers.{orderOf, withZeros}
 use Rattle.count.specs.State.{standingOf, Kept}
 use Rattle.count.specs.declared.Gone.{Gone}
 use Rattle.count.proofs.Picks.{sheets-many, same-gone}
 use Rattle.records.specs.Heads.{headOf}
-use Rattle.checker.specs.declared.turns.Round.the-variants.{Open, Closed}
-use Rattle.checker.specs.Stages.{Placed}
+use Rattle.checker.specs.declared.round.RoundOutcome.the-variants.{Open, Closed}
+use Rattle.checker.specs.Offsets.{Placed}
 use Rattle.checker.specs.Outcomes.{Rounded}
 use Rattle.checker.proofs.RoundPlaces.{sheet-at, placed-first, placed-next}
 use Rattle.checker.proofs.Onward.{one-leaves, ends, goes-on}
@@ -23,15 +23,15 @@ use Rattle.checker.proofs.rounds.Statement.{statement}
 use Rattle.checker.proofs.rounds.Tie as tie
 
 abbrev Inv-loop : tie.InvT-loop
-Inv-loop board at head n k count₀ stage₀ count stage =
-    Placed board head stage × (count .gone .outs ≡ stage .m) × Kept count
-    × (checkFrom sha256 board (headOf board head) n start 0 0 ≡ checkFrom sha256 board (headOf board head) (n - stage .m) (standingOf n count)
-    (stage .m) (stage .a))
+Inv-loop board at head n k count₀ stage₀ count offsets =
+    Placed board head offsets × (count .gone .outs ≡ offsets .m) × Kept count
+    × (checkFrom sha256 board (headOf board head) n start 0 0 ≡ checkFrom sha256 board (headOf board head) (n - offsets .m) (standingOf n count)
+    (offsets .m) (offsets .a))
 
 abbrev μ-loop : tie.MeasureT-loop
-μ-loop board at head n k count₀ stage₀ count stage = n - stage .m
+μ-loop board at head n k count₀ stage₀ count offsets = n - offsets .m
 
-abbrev start-from-turn : tie.After-turn Inv-loop μ-loop → tie.Start Inv-loop μ-loop
+abbrev start-from-turn : tie.After-read-round Inv-loop μ-loop → tie.Start Inv-loop μ-loop
 start-from-turn c = c .before .before .before .before .before
 
 abbrev start-from-accepted : tie.After-accepted Inv-loop μ-loop → tie.Start Inv-loop μ-loop
@@ -55,18 +55,18 @@ unfolding Rounded
 returns c =
     let a = (start-from-turn (c .before .before .before .before)) .args in
     let l = c .before .before .before .before .before .loop in
-    let t = rw (c .before .before .round .given .1) at (c .before .before .before .before .turn .ensures) in
+    let t = rw (c .before .before .round .given .1) at (c .before .before .before .before .read-round .ensures) in
     let x = ends (now (a .board)) (headOf (now (a .board)) (a .h))
-    (checkFrom sha256 (now (a .board)) (headOf (now (a .board)) (a .h)) (a .h .n) start 0 0) (standingOf (a .h .n) (l .count)) (l .stage .m)
-    (l .stage .a) (omega (arith, l .inv .0 .round)) (l .inv .3) _ (t .0) in
+    (checkFrom sha256 (now (a .board)) (headOf (now (a .board)) (a .h)) (a .h .n) start 0 0) (standingOf (a .h .n) (l .count)) (l .offsets .m)
+    (l .offsets .a) (omega (arith, l .inv .0 .round)) (l .inv .3) _ (t .0) in
     (c .refused .ensures .0 ∙ sym x, c .refused .ensures .1 ∙ sym (ap orderOf x))
 
 -- the round closes the board
 closes : (c : tie.After-known-told2 Inv-loop μ-loop) →
     let a = (start-from-turn (c .before .before .before)) .args in
     let l = c .before .before .before .before .loop in
-    Rounded (now (a .board)) (a .h) (l .count) (l .stage .m) (l .stage .a) (Closed (c .before .round2 .given .0 .0)) (c .before .before .before .turn .result .count)
-closes c = rw (c .before .round2 .given .1) at (c .before .before .before .turn .ensures)
+    Rounded (now (a .board)) (a .h) (l .count) (l .offsets .m) (l .offsets .a) (Closed (c .before .round2 .given .0 .0)) (c .before .before .before .read-round .result .count)
+closes c = rw (c .before .round2 .given .1) at (c .before .before .before .read-round .ensures)
 
 returns-2 : tie.Need-returns-2 Inv-loop μ-loop
 unfolding Rounded
@@ -75,12 +75,12 @@ returns-2 c =
     let l = c .before .before .before .before .before .before .loop in
     let t = closes (c .before .before) in
     let x = ends (now (a .board)) (headOf (now (a .board)) (a .h))
-    (checkFrom sha256 (now (a .board)) (headOf (now (a .board)) (a .h)) (a .h .n) start 0 0) (standingOf (a .h .n) (l .count)) (l .stage .m)
-    (l .stage .a) (omega (arith, l .inv .0 .round)) (l .inv .3) _ (t .0) in
+    (checkFrom sha256 (now (a .board)) (headOf (now (a .board)) (a .h)) (a .h .n) start 0 0) (standingOf (a .h .n) (l .count)) (l .offsets .m)
+    (l .offsets .a) (omega (arith, l .inv .0 .round)) (l .inv .3) _ (t .0) in
     let g = same-gone (a .h .n) _ (l .count) (t .1) in (
       c .accepted .ensures .0
           ∙ (λ i. accepted ((ap (λ (y : Gone). y .outs) (t .1) ∙ l .inv .1) i + 1) (g i) (c .before .before .before .round2 .given .0 .0)) ∙ sym x,
-      c .accepted .ensures .1 ∙ ap padded g ∙ sym (ap orderOf x),
+      c .accepted .ensures .1 ∙ ap withZeros g ∙ sym (ap orderOf x),
     )
 
 accepted-requires : tie.Need-accepted-requires Inv-loop μ-loop
@@ -91,18 +91,18 @@ accepted-requires c κs = closes (c .before) .2
 opens : (c : tie.After-known-told3 Inv-loop μ-loop) →
     let a = (start-from-turn (c .before .before .before)) .args in
     let l = c .before .before .before .before .loop in
-    Rounded (now (a .board)) (a .h) (l .count) (l .stage .m) (l .stage .a) (Open (c .before .round3 .given .0 .0)) (c .before .before .before .turn .result .count)
-opens c = rw (c .before .round3 .given .1) at (c .before .before .before .turn .ensures)
+    Rounded (now (a .board)) (a .h) (l .count) (l .offsets .m) (l .offsets .a) (Open (c .before .round3 .given .0 .0)) (c .before .before .before .read-round .result .count)
+opens c = rw (c .before .round3 .given .1) at (c .before .before .before .read-round .ensures)
 
 -- and its sheet is on the board
 room : (c : tie.After-known-told3 Inv-loop μ-loop) →
     let a = (start-from-turn (c .before .before .before)) .args in
-    let l = c .before .before .before .before .loop in l .stage .at + a .h .k * l .stage .size + sheetLength (a .h .n) ≤ length (now (a .board))
+    let l = c .before .before .before .before .loop in l .offsets .at + a .h .k * l .offsets .size + sheetLength (a .h .n) ≤ length (now (a .board))
 unfolding Rounded
 room c =
     let a = (start-from-turn (c .before .before .before)) .args in
     let l = c .before .before .before .before .loop in
-    rw (sheet-at (now (a .board)) (a .h) (l .stage) (l .inv .0)) (opens c .2)
+    rw (sheet-at (now (a .board)) (a .h) (l .offsets) (l .inv .0)) (opens c .2)
 
 next-requires : tie.Need-next-requires Inv-loop μ-loop
 next-requires c κs =
@@ -116,18 +116,21 @@ loop-again c =
     let l = c .before .before .before .before .before .before .loop in
     let o = opens (c .before .before) in
     rw (c .next2 .ensures) (
-      placed-next (now (a .board)) (a .h) (l .stage) (l .inv .0) (standingOf (a .h .n) (l .count))
-          (counts (now (a .board)) (headOf (now (a .board)) (a .h)) (l .stage .m))
+      placed-next (now (a .board)) (a .h) (l .offsets) (l .inv .0) (standingOf (a .h .n) (l .count))
+          (counts (now (a .board)) (headOf (now (a .board)) (a .h)) (l .offsets .m))
           (sheets-many (a .h .n) (l .count) (l .inv .2) ∙ l .inv .1) (o .1) (o .2) (c .before .before .before .round3 .given .0 .0)
           (rw (o .3) (one-leaves (a .h .n) (l .count) _ (l .inv .2) (omega (arith, l .inv .1, l .inv .0 .round)))) (o .4),
       o .5 ∙ ap (λ (x : ℕ). x + 1) (l .inv .1),
       o .6,
       goes-on (now (a .board)) (headOf (now (a .board)) (a .h))
-          (checkFrom sha256 (now (a .board)) (headOf (now (a .board)) (a .h)) (a .h .n) start 0 0) (standingOf (a .h .n) (l .count)) (l .stage .m)
-          (l .stage .a) (omega (arith, l .inv .0 .round)) (l .inv .3) (o .0) _ _ (o .7) (o .3),
+          (checkFrom sha256 (now (a .board)) (headOf (now (a .board)) (a .h)) (a .h .n) start 0 0) (standingOf (a .h .n) (l .count)) (l .offsets .m)
+          (l .offsets .a) (omega (arith, l .inv .0 .round)) (l .inv .3) (o .0) _ _ (o .7) (o .3),
     )
 
 pub rounds-spec : {M : Type 1} → statement M
 rounds-spec =
     tie.close
-    (tie.spec Inv-loop μ-loop (λ c κs. search needs) (λ c κs. c .before .before .pre .0 .high) loop-holds (λ c κs. (c .before .before .before .before .pre .0, c .loop .inv .0, c .loop .inv .2, c .loop .inv .1)) (λ c. search needs) (λ c κs. search needs) returns (λ c. search needs) accepted-requires returns-2 (λ c. search needs) next-requires (λ c. rw (c .next2 .ensures) (omega (arith, c .before .before .before .before .before .before .loop .inv .0 .round))) loop-again)
+    (tie.spec Inv-loop μ-loop (λ c κs. search needs) (λ c κs. c .before .before .pre .0 .high) loop-holds
+    (λ c κs. (c .before .before .before .before .pre .0, c .loop .inv .0, c .loop .inv .2, c .loop .inv .1)) (λ c. search needs)
+    (λ c κs. search needs) returns (λ c. search needs) accepted-requires returns-2 (λ c. search needs) next-requires
+    (λ c. rw (c .next2 .ensures) (omega (arith, c .before .before .before .before .before .before .loop .inv .0 .round))) loop-again)

@@ -1,4 +1,3 @@
--- `demand::check` meets its contract, by that of `checker::check`.
 use borrow.Author.Needs.{needs}
 use Rattle.demand.proofs.Answers.{accepted-is-plain}
 use Rattle.demand.proofs.check.Statement.{statement}

@@ -1,4 +1,3 @@
--- `demand::write` meets its contract, by that of `writer::write`.
 use borrow.Author.Needs.{needs}
 use Rattle.demand.proofs.Answers.{valid-is-written}
 use Rattle.demand.proofs.write.Statement.{statement}

@@ -4,10 +4,10 @@ use Rattle.fields.proofs.exponent.Statement.{statement}
 use Rattle.fields.proofs.exponent.Tie as tie
 
 returns : tie.Need-returns
-returns c = rw (← c .before .word .ensures, lt-ltb _ _ (c .if1 .taken))
+returns c = rw (← c .before .number4 .ensures, lt-ltb _ _ (c .if1 .taken))
 
 returns-2 : tie.Need-returns-2
-returns-2 c = rw (← c .before .word .ensures, le-ltb _ _ (c .if1 .left))
+returns-2 c = rw (← c .before .number4 .ensures, le-ltb _ _ (c .if1 .left))
 
 pub exponent-spec : {M : Type 1} → statement M
 exponent-spec = tie.close (tie.spec (λ c κs. search needs) (λ c. search needs) returns returns-2)

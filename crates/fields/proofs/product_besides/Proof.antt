@@ -6,14 +6,14 @@ use native.Mathlib.Omega.{arith}
 use lib.ListN.{length}
 use borrow.Author.Needs.{needs}
 use Rattle.numbers.specs.Below.{prodBelow}
-use Rattle.rules.specs.Bytes.{word}
+use Rattle.rules.specs.Bytes.{number4}
 use Rattle.rules.specs.Claims.{besides}
 use Rattle.fields.proofs.Products.{prod-more, prod-skip}
 use Rattle.fields.proofs.product_besides.Statement.{statement}
 use Rattle.fields.proofs.product_besides.Tie as tie
 
 abbrev Inv-loop : tie.InvT-loop
-Inv-loop s p at stride count out r₀ j₀ r j = (j ≤ count) × (r .0 ≡ prodBelow j (besides out (λ j. word s (at + stride * j))) % p)
+Inv-loop s p at stride count out r₀ j₀ r j = (j ≤ count) × (r .0 ≡ prodBelow j (besides out (λ j. number4 s (at + stride * j))) % p)
 
 abbrev μ-loop : tie.MeasureT-loop
 μ-loop s p at stride count out r₀ j₀ r j = count - j
@@ -37,7 +37,7 @@ add-as-element c = omega (arith, fits (c .before), c .before .before .before .be
 loop-again : tie.Need-loop-again Inv-loop μ-loop
 loop-again c =
     let a = c .before .before .before .before .args in
-    let f : ℕ → ℕ = λ j. word (now (a .s)) (a .at + a .stride * j) in
+    let f : ℕ → ℕ = λ j. number4 (now (a .s)) (a .at + a .stride * j) in
     let inv = c .before .before .loop .inv .1 in (
       omega arith,
       ⊎-elim

@@ -1,4 +1,3 @@
--- `digest_of` meets its contract. Assumes nothing.
 use native.Mathlib.Nat.{sub-zero}
 use native.Mathlib.Omega.{arith}
 use borrow.Author.Needs.{needs}

@@ -1,10 +1,9 @@
--- `run` is safe and ends: each frame ends behind its start, within the input. Assumes nothing.
 use denote.Ref.{now}
 use Prim.Native.Nat.{_-_, _≤_}
 use native.Mathlib.Omega.{arith}
 use lib.ListN.{length}
 use borrow.Author.Needs.{needs}
-use Rattle.job_cases.specs.Frames.{Within, Told}
+use Rattle.job_cases.specs.Frames.{Within, FrameReads}
 use Rattle.job_cases.proofs.run.Statement.{statement}
 use Rattle.job_cases.proofs.run.Tie as tie
 
@@ -16,7 +15,7 @@ abbrev μ-loop : tie.MeasureT-loop
 
 told : (c : tie.After-known-told Inv-loop μ-loop) →
     Within (now (c .before .before .before .before .before .before .before .args .input)) (c .before .before .before .before .before .loop .at) (c .before .ends .given .0 .0)
-unfolding Told
+unfolding FrameReads
 told c = rw (c .before .ends .given .1) at (c .before .before .before .read .ensures)
 
 pub run-spec : {M : Type 1} → statement M

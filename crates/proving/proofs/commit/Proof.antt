@@ -4,13 +4,13 @@ use mathlib.Core.List.{List, [], _++_, append-nil}
 use native.Mathlib.Omega.{arith}
 use lib.ListN.{length, length-take, length-drop}
 use denote.Ref.{now}
-use Rattle.numbers.specs.Below.{blocks}
+use Rattle.numbers.specs.Below.{concatBelow}
 use Rattle.sha256.specs.Feed.{Fed}
 use Rattle.group.specs.Elements.{parametersOf}
 use Rattle.statements.specs.Claims.{claimOf}
 use Rattle.output.specs.Written.{written}
 use Rattle.output.proofs.Laws.{none}
-use Rattle.proving.specs.Plans.{heldTs, heldBranch}
+use Rattle.proving.specs.Plans.{draftCommitments, draftBranch}
 use Rattle.proving.proofs.Branches.{fed-more}
 use Rattle.proving.proofs.Joining.{held-more, in-proof}
 use borrow.Author.Needs.{needs}
@@ -21,14 +21,14 @@ abbrev Inv-loop : tie.InvT-loop
 Inv-loop out₀ label g page inverses n claim plan draws branches width h₀ l₀ out h l =
     let G = parametersOf (g .group) in
     let C = claimOf page G n claim in
-    (l ≤ plan .branches) × (length out ≡ length out₀) × (out ≡ written (blocks l (heldBranch G C plan draws)) out₀)
-    × ((m : List ℕ) → Fed h₀ m → Fed h (m ++ blocks l (λ l. blocks (plan .statements) (heldTs G C plan draws l))))
+    (l ≤ plan .branches) × (length out ≡ length out₀) × (out ≡ written (concatBelow l (draftBranch G C plan draws)) out₀)
+    × ((m : List ℕ) → Fed h₀ m → Fed h (m ++ concatBelow l (λ l. concatBelow (plan .statements) (draftCommitments G C plan draws l))))
 
 abbrev μ-loop : tie.MeasureT-loop
 μ-loop out₀ label g page inverses n claim plan draws branches width h₀ l₀ out h l = plan .branches - l
 
 loop-holds : tie.Need-loop-holds Inv-loop μ-loop
-unfolding blocks
+unfolding concatBelow
 loop-holds c = (omega arith, refl, none _, λ m f. rw append-nil f)
 
 abbrev start : tie.In-loop Inv-loop μ-loop → tie.Start Inv-loop μ-loop
@@ -53,7 +53,7 @@ loop-again c =
       omega arith,
       search needs,
       held-more g cl (f .plan) (now (f .draws)) (l .l) _ (now (f .out)) (l .out) _ _ _ refl (l .inv .2) b,
-      λ m h. fed-more (λ l. blocks (f .plan .statements) (heldTs g cl (f .plan) (now (f .draws)) l)) (l .l) m _ (b .fed _ (l .inv .3 m h)),
+      λ m h. fed-more (λ l. concatBelow (f .plan .statements) (draftCommitments g cl (f .plan) (now (f .draws)) l)) (l .l) m _ (b .fed _ (l .inv .3 m h)),
     )
 
 returns : tie.Need-returns Inv-loop μ-loop

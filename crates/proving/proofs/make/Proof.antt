@@ -44,7 +44,7 @@ returns c =
     let cl = claimOf (now (f .page)) g (f .n) (f .claim) in
     let all = held w .before .before .commit .ensures in
     let digest = w .before .before .before .before .before .finish .ensures _ (all .fed) in
-    let sum = w .before .before .before .before .before .before .against .ensures .0 in
+    let sum = w .before .before .before .before .before .before .false-complements .ensures .0 in
     let e = challenge-is (now (f .label)) g cl (f .plan) (f .witness) (now (f .draws)) _ _ _ _ digest
     (w .before .before .before .challenge .ensures) sum (w .before .reduce-exp .ensures) in
     joined (now (f .label)) g cl (f .plan) (f .witness) (now (f .draws)) (s .pre .0 .1 .drawn .known) (now (f .out)) _ _ _ _ _ refl e
@@ -59,7 +59,7 @@ make-spec =
     (λ c κs. search needs)
     (λ c κs. start (c .before .before .before) .pre .0 .1 .drawn .positive)
     (λ c. search needs)
-    (λ c. omega (arith, c .before .before .before .before .against .ensures .1))
+    (λ c. omega (arith, c .before .before .before .before .false-complements .ensures .1))
     (λ c κs. start (c .before .before .before .before .before) .pre .0 .1 .drawn .positive)
     branch-draws-requires
     (λ c. omega (arith, start (held c) .pre .0 .1 .drawn .small))

@@ -1,4 +1,3 @@
--- `counting` meets its contract: after i turns the bytes below i are as it says. Assumes nothing.
 use borrow.Author.Needs.{needs}
 use borrow.Author.Count.{below-more}
 use mathlib.Core.Path.{_≡_, refl, _∙_}

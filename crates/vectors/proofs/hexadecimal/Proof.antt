@@ -1,4 +1,3 @@
--- `hexadecimal` meets its contract: after i turns the first i bytes are written. Assumes nothing.
 use borrow.Author.Needs.{needs}
 use mathlib.Core.Path.{_≡_, refl, sym, ap, _∙_}
 use Prim.Native.Nat.{_-_, _*_, _≤_}

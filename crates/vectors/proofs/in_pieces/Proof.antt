@@ -1,4 +1,3 @@
--- `in_pieces` meets its contract: after each turn the first i bytes have been fed. Assumes nothing.
 use borrow.Author.Needs.{needs}
 use mathlib.Core.Path.{_≡_}
 use Prim.Native.Nat.{_+_, _-_, _≤_}

@@ -1,4 +1,3 @@
--- `thousands` meets its contract: after each turn a thousand bytes more have been fed. Assumes nothing.
 use borrow.Author.Needs.{needs}
 use mathlib.Core.Path.{_≡_, refl}
 use Prim.Native.Nat.{_+_, _*_, _-_, _≤_}

@@ -7,9 +7,9 @@ use mathlib.Core.Bool.{true}
 use mathlib.Core.List.{List, [], _∷_, _++_}
 use lib.ListN.{length, getD, length-append}
 use borrow.Author.Tests.{le-leb, eq-eqb}
-use Rattle.numbers.specs.Below.{blocks}
+use Rattle.numbers.specs.Below.{concatBelow}
 use Rattle.numbers.proofs.Tests.{and-true, all-true}
-use Rattle.rules.specs.Bytes.{half, bytes2, Stands}
+use Rattle.rules.specs.Bytes.{number2, bytes2, Stands}
 use Rattle.group.specs.Elements.{Parameters}
 use Rattle.group.specs.Arithmetic.{powMod}
 use Rattle.rules.specs.Claims.{Matrix, matrixAt}
@@ -65,13 +65,13 @@ module _ (hash : List ℕ → List ℕ) (job : Job) (k : ℕ) where
   thePairs = pairBytes (job .n) (jobMatrix job g [] 0 k) (job .n)
 
   abbrev theEntries : List ℕ
-  theEntries = blocks (job .n) (λ i. blocks (job .n) (λ j. proofBytes g (entry i j) hash (job .label)))
+  theEntries = concatBelow (job .n) (λ i. concatBelow (job .n) (λ j. proofBytes g (entry i j) hash (job .label)))
 
   abbrev theRows : List ℕ
-  theRows = blocks (job .n) (λ i. proofBytes g (row i) hash (job .label))
+  theRows = concatBelow (job .n) (λ i. proofBytes g (row i) hash (job .label))
 
   abbrev theColumns : List ℕ
-  theColumns = blocks (job .n) (λ j. proofBytes g (column j) hash (job .label))
+  theColumns = concatBelow (job .n) (λ j. proofBytes g (column j) hash (job .label))
 
   two-length : length (theEntries ++ theRows) ≡ job .n * (job .n * 32) + job .n * 16
   two-length =
@@ -148,5 +148,5 @@ module _ (hash : List ℕ → List ℕ) (job : Job) (k : ℕ) where
         let long : at + recordLength (job .n) 0 ≤ length s = omega (arith, stands .fits, length-ballot hash (job .label) g (job .n) (rowsOf job [] k) (job .draws) (drawsAt (job .n) (job .K) 0 k) (k + 1)) in
         let first : getD s at 0 ≡ 66 = byte-stands stands in
         let second : getD s (at + 1) 0 ≡ 65 = stands .same 1 (omega arith) in
-        let number : half s (at + 2) ≡ k + 1 = half-stands (omega (arith, f .K-high)) (stands-left (bytes2 (k + 1)) _ (stands-right (66 ∷ 65 ∷ []) _ refl stands)) in
+        let number : number2 s (at + 2) ≡ k + 1 = half-stands (omega (arith, f .K-high)) (stands-left (bytes2 (k + 1)) _ (stands-right (66 ∷ 65 ∷ []) _ refl stands)) in
         rw (le-leb _ _ long, first, second, eq-eqb _ _ number, fields, proofs)

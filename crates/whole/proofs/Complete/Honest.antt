@@ -7,8 +7,8 @@ use mathlib.Core.Bool.{true, false, cond}
 use mathlib.Core.List.{List, _++_}
 use lib.Dec.{ltb, eqb}
 use borrow.Author.Tests.{ltb-true, ltb-false, eqb-true, eqb-false, lt-ltb, eq-eqb}
-use Rattle.numbers.specs.Below.{sumBelow, blocks}
-use Rattle.rules.specs.Bytes.{word, part, bytes4, Stands}
+use Rattle.numbers.specs.Below.{sumBelow, concatBelow}
+use Rattle.rules.specs.Bytes.{number4, part, bytes4, Stands}
 use Rattle.group.specs.Elements.{Parameters, isElement}
 use Rattle.group.specs.Arithmetic.{powMod}
 use Rattle.numbers.proofs.Residues.{mul-mod-right}
@@ -125,11 +125,11 @@ module _ (hash : List ℕ → List ℕ) (label : List ℕ) (g : Parameters) (pr 
 
   -- ---- what is read where such a proof stands
   module _ (h : Honest g pr) (s : List ℕ) (at : ℕ) (stands : Stands s at bytes) where
-    branch-stands : (l : ℕ) → l < branches → Stands s (branchAt at statements l) (bytes4 (challenge l) ++ blocks statements (λ i. both l i ++ bytes4 (response l i)))
+    branch-stands : (l : ℕ) → l < branches → Stands s (branchAt at statements l) (bytes4 (challenge l) ++ concatBelow statements (λ i. both l i ++ bytes4 (response l i)))
     unfolding proofBytes branchBytes
     branch-stands l a = stands-block branches (4 + 12 * statements) _ (λ l _. length-branch (challenge l) statements (both l) (response l) (λ _ _. refl)) stands l a
 
-    read-challenge : (l : ℕ) → l < branches → word s (branchAt at statements l) ≡ challenge l
+    read-challenge : (l : ℕ) → l < branches → number4 s (branchAt at statements l) ≡ challenge l
     read-challenge l a = word-stands (omega (arith, challenge-below h l a, h .good)) (stands-left (bytes4 (challenge l)) _ (branch-stands l a))
 
     module _ (l i : ℕ) (a : l < branches) (b : i < statements) where
@@ -147,17 +147,17 @@ module _ (hash : List ℕ → List ℕ) (label : List ℕ) (g : Parameters) (pr 
       second-root : claim l i .right ^ g .q % g .p ≡ 1
       second-root = h .root-right l i a b
 
-      read-first : word s (statementAt at statements l i) ≡ commit (g .g0) (claim l i .left) l i
+      read-first : number4 s (statementAt at statements l i) ≡ commit (g .g0) (claim l i .left) l i
       read-first =
           word-stands (omega (arith, commitment-below h (g .g0) (claim l i .left) l i a b (h .good .root0) first-root, h .good))
           (stands-left (bytes4 (commit (g .g0) (claim l i .left) l i)) _ statement-stands)
 
-      read-second : word s (statementAt at statements l i + 4) ≡ commit (g .g1) (claim l i .right) l i
+      read-second : number4 s (statementAt at statements l i + 4) ≡ commit (g .g1) (claim l i .right) l i
       read-second =
           word-stands (omega (arith, commitment-below h (g .g1) (claim l i .right) l i a b (h .good .root1) second-root, h .good))
           (stands-left (bytes4 (commit (g .g1) (claim l i .right) l i)) _ (stands-right (bytes4 (commit (g .g0) (claim l i .left) l i)) _ refl statement-stands))
 
-      read-response : word s (statementAt at statements l i + 8) ≡ response l i
+      read-response : number4 s (statementAt at statements l i + 8) ≡ response l i
       read-response =
           word-stands (omega (arith, response-below h l i a b, h .good)) (stands-right (both l i) _ refl statement-stands)
 
@@ -185,8 +185,8 @@ module _ (hash : List ℕ → List ℕ) (label : List ℕ) (g : Parameters) (pr 
         (eq-eqb _ _ (equation h (g .g0) (claim l i .left) l i a b (h .good .root0) (first-root l i a b) (λ e. rw e (h .known-left i b)) ∙ sym (mul-mod-right _ _ (g .p))))
         (eq-eqb _ _ (equation h (g .g1) (claim l i .right) l i a b (h .good .root1) (second-root l i a b) (λ e. rw e (h .known-right i b)) ∙ sym (mul-mod-right _ _ (g .p))))))))
         (rw (
-          sum-same branches (λ l. word s (branchAt at statements l)) challenge read-challenge,
-          blocks-same branches (λ l. blocks statements (λ i. part s (statementAt at statements l i) 8)) (λ l. blocks statements (both l))
+          sum-same branches (λ l. number4 s (branchAt at statements l)) challenge read-challenge,
+          blocks-same branches (λ l. concatBelow statements (λ i. part s (statementAt at statements l i) 8)) (λ l. concatBelow statements (both l))
               (λ l a. blocks-same statements _ (both l) (λ i b. read-both l i a b)),
         )
         (eq-eqb _ _ (challenges h ∙ mod-mod _ (g .q))))

@@ -9,13 +9,13 @@ use mathlib.Core.Logic.{⊎-elim}
 use lib.Dec.{eqb}
 use lib.ListN.{length, getD, length-append}
 use borrow.Author.Tests.{eq-eqb}
-use Rattle.numbers.specs.Below.{blocks}
+use Rattle.numbers.specs.Below.{concatBelow}
 use Rattle.group.specs.Elements.{Parameters}
 use Rattle.rules.specs.Claims.{matrixAt}
 use Rattle.rules.specs.Records.{recordLength, sheetLength, roundAt, recordAt}
 use Rattle.rules.specs.Count.{Standing, next}
 use Rattle.rules.specs.Check.{Verdict, accepted, Header, header, recordFault, outField, counts, sheetFault, ending, roundVerdict, checkFrom, matrix}
-use Rattle.jobs.specs.Job.{Job, groupOf, headerOf, rankingOf, standing, plainResult, recordDraws, roundDraws}
+use Rattle.jobs.specs.Job.{Job, groupOf, headerOf, rankingOf, remaining, plainResult, recordDraws, roundDraws}
 use Rattle.jobs.specs.Board.{jobMatrix, recordBytes, roundsFrom, jobSheet}
 use Rattle.rules.specs.Openings.{OpensTo, listAt}
 use Rattle.whole.proofs.Verdicts.{round-read}
@@ -43,7 +43,7 @@ module _ (hash : List ℕ → List ℕ) (job : Job) where
   abbrev h : Header
   h = headerOf hash job
 
-  records-length : (before : List ℕ) (a m : ℕ) → length (blocks (job .K) (recordBytes hash job g before a m)) ≡ job .K * recordLength (job .n) m
+  records-length : (before : List ℕ) (a m : ℕ) → length (concatBelow (job .K) (recordBytes hash job g before a m)) ≡ job .K * recordLength (job .n) m
   records-length before a m = length-blocks (job .K) (recordLength (job .n) m) _ (λ k _. length-record hash job g before a m k)
 
   module _ (s : List ℕ) where
@@ -52,7 +52,7 @@ module _ (hash : List ℕ → List ℕ) (job : Job) where
     Read gone m = (k : ℕ) → k < job .K → SameMatrix (job .n - m) (job .n) (matrixAt s (job .n) (recordAt (job .n) (job .K) m k)) (jobMatrix job g gone m k)
 
     abbrev Short : List ℕ → ℕ → Type 0
-    Short gone m = (k : ℕ) → k < job .K → length (standing gone (rankingOf job k)) ≡ job .n - m
+    Short gone m = (k : ℕ) → k < job .K → length (remaining gone (rankingOf job k)) ≡ job .n - m
 
     -- what round m left to the next
     pub record Shifted (gone before : List ℕ) (a m : ℕ) : Type 0 where
@@ -68,7 +68,7 @@ module _ (hash : List ℕ → List ℕ) (job : Job) where
     -- the board from round m on is what the writer wrote there
     pub record Reach (fuel : ℕ) (st : Standing) (m : ℕ) (before : List ℕ) (a : ℕ) : Type 0 where
       pub count : Reached job fuel st m
-      pub listed : (k : ℕ) → listAt s (rankingOf job) m k ≡ standing (st .gone) (rankingOf job k)
+      pub listed : (k : ℕ) → listAt s (rankingOf job) m k ≡ remaining (st .gone) (rankingOf job k)
       pub prior : Prior (st .gone) before a m
       pub rest : Stands s (roundAt (job .n) (job .K) m) (roundsFrom hash job g fuel st m before a)
       pub whole : length s ≡ roundAt (job .n) (job .K) m + length (roundsFrom hash job g fuel st m before a)
@@ -76,7 +76,7 @@ module _ (hash : List ℕ → List ℕ) (job : Job) where
     module _ (f : Fine hash job) (heads : header s ≡ h) where
       -- the records of a round
       records : (gone before : List ℕ) (a m : ℕ) → Prior gone before a m → m < plainResult job .rounds → m + 2 ≤ job .n →
-          Stands s (roundAt (job .n) (job .K) m) (blocks (job .K) (recordBytes hash job g before a m)) →
+          Stands s (roundAt (job .n) (job .K) m) (concatBelow (job .K) (recordBytes hash job g before a m)) →
           (k : ℕ) → k < job .K →
           (recordFault hash s h a m k ≡ 0)
           × SameMatrix (job .n - m) (job .n) (matrixAt s (job .n) (recordAt (job .n) (job .K) m k)) (jobMatrix job g gone m k)
@@ -117,20 +117,20 @@ module _ (hash : List ℕ → List ℕ) (job : Job) where
         in-round : m < plainResult job .rounds
         in-round = in-rounds job (f .ranked) (r .count)
 
-        split : Stands s (roundAt (job .n) (job .K) m) (blocks (job .K) (recordBytes hash job g before a m) ++ tail)
+        split : Stands s (roundAt (job .n) (job .K) m) (concatBelow (job .K) (recordBytes hash job g before a m) ++ tail)
         unfolding roundsFrom
         split = r .rest
 
         sheet-stands : Stands s (recordAt (job .n) (job .K) m (job .K)) (jobSheet job g m (cond closing 0 leaving) C)
         unfolding recordAt
         sheet-stands =
-            let t : Stands s (recordAt (job .n) (job .K) m (job .K)) tail = stands-right (blocks (job .K) (recordBytes hash job g before a m)) tail (records-length before a m) split in
+            let t : Stands s (recordAt (job .n) (job .K) m (job .K)) tail = stands-right (concatBelow (job .K) (recordBytes hash job g before a m)) tail (records-length before a m) split in
             by-cases closing (λ e. rw e (rw e at t)) (λ e. rw e (stands-left (jobSheet job g m leaving C) after (rw e at t)))
 
         round-records : (k : ℕ) → k < job .K →
             (recordFault hash s h a m k ≡ 0)
             × SameMatrix (job .n - m) (job .n) (matrixAt s (job .n) (recordAt (job .n) (job .K) m k)) (jobMatrix job g (st .gone) m k)
-        round-records = records (st .gone) before a m (r .prior) in-round (r .count .early) (stands-left (blocks (job .K) (recordBytes hash job g before a m)) tail split)
+        round-records = records (st .gone) before a m (r .prior) in-round (r .count .early) (stands-left (concatBelow (job .K) (recordBytes hash job g before a m)) tail split)
 
         round-counts : counts s h m ≡ C
         round-counts = read-counts hash job (st .gone) m f s (cond closing 0 leaving) sheet-stands
@@ -154,7 +154,7 @@ module _ (hash : List ℕ → List ℕ) (job : Job) where
                 secret job m k i j,
                 record {
                   x-below = secret-at hash job f m k in-round a i j b c .1;
-                  v-below = one-below (eqb (getD (standing (st .gone) (rankingOf job k)) i 0) (j + 1));
+                  v-below = one-below (eqb (getD (remaining (st .gone) (rankingOf job k)) i 0) (j + 1));
                   first = same .same-b i j b c;
                   second = same .same-y i j b c;
                 },
@@ -167,8 +167,8 @@ module _ (hash : List ℕ → List ℕ) (job : Job) where
         tail-whole : length s ≡ recordAt (job .n) (job .K) m (job .K) + length tail
         unfolding roundsFrom recordAt
         tail-whole =
-            let e : length s ≡ roundAt (job .n) (job .K) m + length (blocks (job .K) (recordBytes hash job g before a m) ++ tail) = r .whole in
-            omega (arith, length-append (blocks (job .K) (recordBytes hash job g before a m)) tail, records-length before a m)
+            let e : length s ≡ roundAt (job .n) (job .K) m + length (concatBelow (job .K) (recordBytes hash job g before a m) ++ tail) = r .whole in
+            omega (arith, length-append (concatBelow (job .K) (recordBytes hash job g before a m)) tail, records-length before a m)
 
         -- the round that closes the board
         closed : closing ≡ true → checkFrom hash s h (suc fuel) st m a ≡ accepted (plainResult job .rounds) (plainResult job .order) (plainResult job .winner)
@@ -177,7 +177,7 @@ module _ (hash : List ℕ → List ℕ) (job : Job) where
             let t : length tail ≡ sheetLength (job .n) = rw e (sheet-long 0) in
             round-is _ ∙ rw e (rw (eq-eqb (length s) (recordAt (job .n) (job .K) m (job .K) + sheetLength (job .n)) (omega (arith, tail-whole)), round-counts, plain-closed job (f .ranked) (r .count) e, r .count .sheeted))
 
-        next-listed : closing ≡ false → (k : ℕ) → listAt s (rankingOf job) (suc m) k ≡ standing (st .gone ++ (leaving ∷ [])) (rankingOf job k)
+        next-listed : closing ≡ false → (k : ℕ) → listAt s (rankingOf job) (suc m) k ≡ remaining (st .gone ++ (leaving ∷ [])) (rankingOf job k)
         unfolding listAt
         next-listed e k =
             let o : outField s (header s) m ≡ leaving =
@@ -192,7 +192,7 @@ module _ (hash : List ℕ → List ℕ) (job : Job) where
         opened : closing ≡ false → Reach fuel (next (job .n) st C) (suc m) (st .gone) leaving
         unfolding roundAt recordAt
         opened e =
-            let t : Stands s (recordAt (job .n) (job .K) m (job .K)) tail = stands-right (blocks (job .K) (recordBytes hash job g before a m)) tail (records-length before a m) split in
+            let t : Stands s (recordAt (job .n) (job .K) m (job .K)) tail = stands-right (concatBelow (job .K) (recordBytes hash job g before a m)) tail (records-length before a m) split in
             let w : length s ≡ recordAt (job .n) (job .K) m (job .K) + length (jobSheet job g m leaving C ++ after) = rw e at tail-whole in
             record {
               count = next-reached job (f .ranked) (r .count) e;

@@ -9,7 +9,7 @@ use mathlib.Core.List.{List, [], _∷_, _++_, append-assoc}
 use lib.Dec.{eqb}
 use lib.ListN.{length, getD}
 use borrow.Author.Tests.{le-leb, lt-ltb, eq-eqb}
-use Rattle.numbers.specs.Below.{sumBelow, blocks}
+use Rattle.numbers.specs.Below.{sumBelow, concatBelow}
 use Rattle.numbers.proofs.Tests.{and-true, all-true, by-cases}
 use Rattle.numbers.proofs.Products.{prod-same}
 use Rattle.numbers.proofs.Sums.{sum-under, sum-same}
@@ -21,7 +21,7 @@ use Rattle.rules.specs.Claims.{matrixAt}
 use Rattle.rules.specs.Records.{sheetLength, recordAt}
 use Rattle.rules.specs.Count.{votesFor, countsOf, table}
 use Rattle.rules.specs.Check.{Test, firstFault, outField, countField, sField, counts, sheetFields, tallies, sheetFault}
-use Rattle.jobs.specs.Job.{Job, groupOf, headerOf, rankingOf, standing, rowsOf, recordDraws, roundDraws}
+use Rattle.jobs.specs.Job.{Job, groupOf, headerOf, rankingOf, remaining, rowsOf, recordDraws, roundDraws}
 use Rattle.jobs.specs.Board.{jobMatrix, jobSheet}
 use Rattle.numbers.proofs.Residues.{mul-mod}
 use Rattle.numbers.proofs.RootsOfUnity.{pow-order}
@@ -72,12 +72,12 @@ module _ (hash : List ℕ → List ℕ) (job : Job) (gone : List ℕ) (m : ℕ) 
 
     votes-below : (i : ℕ) → votes i ≤ job .K
     votes-below i = rw (votes-opened i)
-        (sum-under (job .K) _ (λ k _. by-cases (eqb (getD (standing gone (rankingOf job k)) 0 0) (i + 1)) (λ e. rw e (omega arith)) (λ e. rw e (omega arith))))
+        (sum-under (job .K) _ (λ k _. by-cases (eqb (getD (remaining gone (rankingOf job k)) 0 0) (i + 1)) (λ e. rw e (omega arith)) (λ e. rw e (omega arith))))
 
     field-stands : (i : ℕ) → i < job .n → Stands s (at + 4 + 6 * i) (field i)
     unfolding sheetBytes
     field-stands i l =
-        stands-moved (omega arith) (stands-block (job .n) 6 field (λ _ _. refl) (stands-right (82 ∷ 84 ∷ (m + 1) ∷ out ∷ []) (blocks (job .n) field) refl stands) i l)
+        stands-moved (omega arith) (stands-block (job .n) 6 field (λ _ _. refl) (stands-right (82 ∷ 84 ∷ (m + 1) ∷ out ∷ []) (concatBelow (job .n) field) refl stands) i l)
 
     read-count : (i : ℕ) → i < job .n → countField s (headerOf hash job) m i ≡ getD theCounts i 0
     read-count i l =

@@ -7,13 +7,13 @@ use mathlib.Core.List.{List, [], _∷_, _++_}
 use lib.ListN.{length, getD}
 use borrow.Author.Tests.{le-leb, eq-eqb}
 use Rattle.numbers.proofs.Tests.{and-true}
-use Rattle.rules.specs.Bytes.{half, bytes2, Stands}
+use Rattle.rules.specs.Bytes.{number2, bytes2, Stands}
 use Rattle.group.specs.Elements.{Parameters}
 use Rattle.rules.specs.Claims.{Matrix, matrixAt}
 use Rattle.rules.specs.Records.{recordLength, recordAt}
 use Rattle.rules.specs.Check.{firstFault, shiftProof, shiftFields, shiftHolds, recordFault}
 use Rattle.jobs.specs.Board.{jobMatrix, jobShift, recordBytes}
-use Rattle.jobs.specs.Job.{Job, groupOf, headerOf, rankingOf, standing, plainResult, rowsOf, placeOf, drawsAt}
+use Rattle.jobs.specs.Job.{Job, groupOf, headerOf, rankingOf, remaining, plainResult, rowsOf, rowOf, drawsAt}
 use Rattle.jobs.specs.Prover.{proofBytes}
 use Rattle.whole.proofs.Complete.Honest.{honest-fields, honest-holds}
 use Rattle.jobs.proofs.FineJob.{Fine}
@@ -39,11 +39,11 @@ module _ (hash : List ℕ → List ℕ) (job : Job) (before : List ℕ) (a m k :
   thePairs = pairBytes (job .n) new R
 
   abbrev theProof : List ℕ
-  theProof = proofBytes g (shiftProver g (job .n) R (rowsOf job before k) (rowsOf job (before ++ (a ∷ [])) k) (placeOf a (standing before (rankingOf job k))) (a - 1) (job .draws) (drawsAt (job .n) (job .K) m k) (drawsAt (job .n) (job .K) (suc m) k)) hash (job .label)
+  theProof = proofBytes g (shiftProver g (job .n) R (rowsOf job before k) (rowsOf job (before ++ (a ∷ [])) k) (rowOf a (remaining before (rankingOf job k))) (a - 1) (job .draws) (drawsAt (job .n) (job .K) m k) (drawsAt (job .n) (job .K) (suc m) k)) hash (job .label)
 
   module _ (f : Fine hash job) (in-round : suc m < plainResult job .rounds) (in-ballots : k < job .K) (rows : suc m ≤ job .n)
       (a-low : 1 ≤ a) (a-high : a ≤ job .n)
-      (a-once : times a (standing before (rankingOf job k)) ≡ 1) (short : length (standing before (rankingOf job k)) ≤ job .n - m) (s : List ℕ)
+      (a-once : times a (remaining before (rankingOf job k)) ≡ 1) (short : length (remaining before (rankingOf job k)) ≤ job .n - m) (s : List ℕ)
       (old-read : SameMatrix (job .n - m) (job .n) (matrixAt s (job .n) (recordAt (job .n) (job .K) m k)) (jobMatrix job g before m k))
       (stands : Stands s (recordAt (job .n) (job .K) (suc m) k) (jobShift hash job g before a m k)) where
     abbrev at : ℕ
@@ -80,5 +80,5 @@ module _ (hash : List ℕ → List ℕ) (job : Job) (before : List ℕ) (a m k :
         let long : at + recordLength (job .n) (suc m) ≤ length s = omega (arith, stands .fits, length-record hash job g before a (suc m) k) in
         let first : getD s at 0 ≡ 83 = byte-stands stands in
         let second : getD s (at + 1) 0 ≡ 72 = stands .same 1 (omega arith) in
-        let number : half s (at + 2) ≡ k + 1 = half-stands (omega (arith, f .K-high)) (stands-left (bytes2 (k + 1)) _ (stands-right (83 ∷ 72 ∷ []) _ refl stands)) in
+        let number : number2 s (at + 2) ≡ k + 1 = half-stands (omega (arith, f .K-high)) (stands-left (bytes2 (k + 1)) _ (stands-right (83 ∷ 72 ∷ []) _ refl stands)) in
         rw (le-leb _ _ long, first, second, eq-eqb _ _ number, fields, holds)

@@ -12,7 +12,7 @@ use Rattle.group.specs.Arithmetic.{powMod}
 use Rattle.rules.specs.Group.{paired}
 use Rattle.rules.specs.Claims.{lineClaim, entryClaim, rowClaim, columnClaim}
 use Rattle.jobs.specs.Board.{jobMatrix}
-use Rattle.jobs.specs.Job.{Job, groupOf, rankingOf, standing, recordDraws, roundDraws, drawsAt, needed, plainResult, draw, rowsOf}
+use Rattle.jobs.specs.Job.{Job, groupOf, rankingOf, remaining, recordDraws, roundDraws, drawsAt, needed, plainResult, draw, rowsOf}
 use Rattle.rules.proofs.Elements.{Good, power-root, pair-root, paired-mod, root-mod, root-over, root-prod}
 use Rattle.whole.proofs.Complete.Honest.{Honest}
 use Rattle.numbers.proofs.Tests.{by-cases}
@@ -63,7 +63,7 @@ module _ (hash : List ℕ → List ℕ) (job : Job) (f : Fine hash job) (k : ℕ
       Honest (groupOf hash job) (entryProver (groupOf hash job) (job .n) (rowsOf job [] k) (job .draws) (drawsAt (job .n) (job .K) 0 k) i j)
   unfolding entryClaim matrixOf powMod recordDraws
   entry-honest i j a b =
-      let v : Bool = eqb (getD (standing [] (rankingOf job k)) i 0) (j + 1) in
+      let v : Bool = eqb (getD (remaining [] (rankingOf job k)) i 0) (j + 1) in
       record {
         good = good;
         inside = by-cases v (λ e. rw e (omega arith)) (λ e. rw e (omega arith));

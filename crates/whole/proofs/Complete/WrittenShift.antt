@@ -16,7 +16,7 @@ use Rattle.group.specs.Arithmetic.{powMod}
 use Rattle.rules.specs.Claims.{Matrix, shiftClaim, source, besides}
 use Rattle.rules.specs.Count.{member}
 use Rattle.jobs.specs.Board.{jobMatrix}
-use Rattle.jobs.specs.Job.{Job, groupOf, rankingOf, standing, placeOf, recordDraws, plainResult, rowsOf, drawsAt}
+use Rattle.jobs.specs.Job.{Job, groupOf, rankingOf, remaining, rowOf, recordDraws, plainResult, rowsOf, drawsAt}
 use Rattle.rules.proofs.Elements.{Good, power-root, pair-root, paired-mod, root-mod, root-over, root-prod, root-one}
 use Rattle.whole.proofs.Complete.Honest.{Honest}
 use Rattle.numbers.proofs.Tests.{by-cases}
@@ -30,12 +30,12 @@ use Rattle.jobs.proofs.Matrices.{source-below}
 
 module _ (hash : List ℕ → List ℕ) (job : Job) (f : Fine hash job) (before : List ℕ) (a m k : ℕ)
     (in-round : suc m < plainResult job .rounds) (in-ballots : k < job .K) (rows : suc m ≤ job .n) (a-low : 1 ≤ a)
-    (a-once : times a (standing before (rankingOf job k)) ≡ 1) (short : length (standing before (rankingOf job k)) ≤ job .n - m) where
+    (a-once : times a (remaining before (rankingOf job k)) ≡ 1) (short : length (remaining before (rankingOf job k)) ≤ job .n - m) where
   abbrev g : Parameters
   g = groupOf hash job
 
   abbrev row : ℕ
-  row = placeOf a (standing before (rankingOf job k))
+  row = rowOf a (remaining before (rankingOf job k))
 
   abbrev old : Matrix
   old = jobMatrix job g before m k
@@ -49,11 +49,11 @@ module _ (hash : List ℕ → List ℕ) (job : Job) (f : Fine hash job) (before 
   good : Good g
   good = good-group hash job f
 
-  has : member a (standing before (rankingOf job k)) ≡ true
-  has = times-member a (standing before (rankingOf job k)) (omega arith)
+  has : member a (remaining before (rankingOf job k)) ≡ true
+  has = times-member a (remaining before (rankingOf job k)) (omega arith)
 
-  here : getD (standing before (rankingOf job k)) row 0 ≡ a
-  here = place-at a (standing before (rankingOf job k)) has
+  here : getD (remaining before (rankingOf job k)) row 0 ≡ a
+  here = place-at a (remaining before (rankingOf job k)) has
 
   root-left : (l i : ℕ) → shiftClaim g (job .n) old new (a - 1) l i .left ^ job .q % job .p ≡ 1
   unfolding shiftClaim matrixOf
@@ -80,8 +80,8 @@ module _ (hash : List ℕ → List ℕ) (job : Job) (f : Fine hash job) (before 
       omega (arith, secret-at hash job f m k (omega arith) in-ballots (source row (i / job .n)) (i % job .n) (omega arith) (mod-lt i some) .1)
 
   -- the new row i is the row that it comes from
-  moved : (i : ℕ) → getD (standing (before ++ (a ∷ [])) (rankingOf job k)) i 0 ≡ getD (standing before (rankingOf job k)) (source row i) 0
-  moved i = rw (← (strike a before (rankingOf job k))) (struck-at a (standing before (rankingOf job k)) a-once i)
+  moved : (i : ℕ) → getD (remaining (before ++ (a ∷ [])) (rankingOf job k)) i 0 ≡ getD (remaining before (rankingOf job k)) (source row i) 0
+  moved i = rw (← (strike a before (rankingOf job k))) (struck-at a (remaining before (rankingOf job k)) a-once i)
 
   -- the struck row has its 1 at a alone
   besides-left : (j : ℕ) → j < job .n → besides (a - 1) (old .b row) j ≡ paired g (cond (eqb j (a - 1)) 0 (secret job m k row j)) 0
@@ -125,7 +125,7 @@ module _ (hash : List ℕ → List ℕ) (job : Job) (f : Fine hash job) (before 
   shift-honest =
       record {
         good = good;
-        inside = omega (arith, place-below a (standing before (rankingOf job k)) has);
+        inside = omega (arith, place-below a (remaining before (rankingOf job k)) has);
         root-left = λ l i _ _. root-left l i;
         root-right = λ l i _ _. root-right l i;
         known-left = known-left;

@@ -11,8 +11,8 @@ use Rattle.jobs.specs.Job.{groupOf}
 use Rattle.jobs.specs.Write.{drawsGood, Passed, Valid}
 use Rattle.jobs.proofs.FineJob.{fine}
 use Rattle.writer.specs.Jobs.{jobOf}
-use Rattle.writer.specs.Steps.{Told, Measured, Put}
-use Rattle.writer.specs.declared.tests.Tested.{Tested}
+use Rattle.writer.specs.Steps.{JobTested, Measured, Put}
+use Rattle.writer.specs.declared.validity.Tested.{Tested}
 use Rattle.writer.proofs.Outcomes.{group-positive, measurable, measured, draws-are, stops-draws, stops-room, refuses}
 use Rattle.writer.proofs.Boards.{bytesFor, can, sheeted, room, writes}
 use borrow.Author.Needs.{needs}
@@ -23,15 +23,15 @@ abbrev jobAt : tie.After-up-to-rankings → J.Job
 jobAt c = let f = c .before .before .before .before .before .args in jobOf (f .job) (now (f .label)) (now (f .rankings)) (now (f .draws))
 
 -- what the first tests told, in the case that was met
-told : (c : tie.After-up-to-rankings) (t : Tested) → c .up-to-rankings .result ≡ t → Told (jobAt c) t
-told c t e = subst (Told (jobAt c)) e (c .up-to-rankings .ensures _)
+told : (c : tie.After-up-to-rankings) (t : Tested) → c .up-to-rankings .result ≡ t → JobTested (jobAt c) t
+told c t e = subst (JobTested (jobAt c)) e (c .up-to-rankings .ensures _)
 
 -- the tests were passed, and this is the group
 abbrev job : tie.After-known-told → J.Job
 job c = jobAt (c .before .before .before)
 
 sound : (c : tie.After-known-told) → Passed sha256 (job c) × (parametersOf (c .before .tested .given .0 .0) ≡ groupOf sha256 (job c))
-unfolding Told
+unfolding JobTested
 sound c = told (c .before .before .before) _ (c .before .tested .given .1)
 
 -- and this the count and the measure
@@ -51,7 +51,7 @@ group-is : (c : tie.After-new) → parametersOf (c .new .result .group) ≡ grou
 group-is c = ap parametersOf (c .new .ensures .0) ∙ sound (passed (c .before .before .before)) .1
 
 returns : tie.Need-returns
-unfolding Told
+unfolding JobTested
 returns c =
     let t = c .before .before .before .before in
     refuses (jobAt t) _ _ (c .refused .result) _ _ (told t _ (c .before .before .tested2 .given .1) _) (c .refused .ensures) refl
@@ -104,5 +104,5 @@ write-spec =
     (λ c. omega (arith, c .before .before .count .ensures .1 .listed .few))
     (λ c κs. let w = measurable (job (c .before .before .before)) (sound (c .before .before .before) .0) in (w .1, omega (arith, c .before .before .count .ensures .2), w .2))
     (λ c κs. search needs) (λ c κs. search needs) returns-2
-    (λ c κs. let t = passed (c .before .before) in group-positive (job t) _ (sound t .1) (sound t .0 .ordered)) put-board-requires (λ c κs. search needs)
-    (λ c. search needs) returns-3 (λ c κs. measured-is (at (c .before .before .before)) .kept) (λ c. search needs) returns-4)
+    (λ c κs. let t = passed (c .before .before) in group-positive (job t) _ (sound t .1) (sound t .0 .ordered)) put-board-requires
+    (λ c κs. search needs) (λ c. search needs) returns-3 (λ c κs. measured-is (at (c .before .before .before)) .kept) (λ c. search needs) returns-4)

@@ -24,9 +24,6 @@ returns c =
 pub page-of-spec : {M : Type 1} → statement M
 page-of-spec =
     tie.close
-    (tie.spec
-    (λ c. search needs)
-    (λ c. search needs)
-    (λ c. search needs)
+    (tie.spec (λ c. search needs) (λ c. search needs) (λ c. search needs)
     (λ c κs. let s = c .before .before in (omega (arith, s .pre), omega (arith, s .pre), omega (arith, s .pre), omega (arith, s .pre), omega (arith, cells (s .args .n) (omega (arith, s .pre))), omega (arith, s .pre), omega (arith, s .pre)))
     returns)

@@ -41,4 +41,15 @@ returns c =
 pub write-ballot-spec : {M : Type 1} → statement M
 write-ballot-spec =
     tie.close
-    (tie.spec (λ c κs. let s = c .before .before .before .before in let p = s .pre .0 in (p .0 .p-pos, p .1, p .2, omega (arith, s .pre .1 .near), omega (arith, s .pre .1 .enough))) (λ c. let s = c .before .before .before .before .before in omega (arith, cells (s .args .n) (s .pre .0 .2))) (λ c. let s = c .before .before .before .before .before in omega (arith, cells (s .args .n) (s .pre .0 .2))) (λ c. let s = c .before .before .before .before .before in omega (arith, cells (s .args .n) (s .pre .0 .2))) (λ c. omega arith) (λ c. omega (arith, c .before .before .page-of .ensures .0)) (λ c. let s = c .before .before .before .before .before .before .before in omega (arith, cells (s .args .n) (s .pre .0 .2), c .before .before .page-of .ensures .0)) (λ c κs. let s = c .before .before .before .before .before .before .before .before in simp (length-take, length-drop) (omega (arith, s .pre .0 .3))) (λ c. omega (arith, c .before .before .before .before .before .before .before .before .before .before .before .pre .0 .3, c, c .before)) (λ c. omega (arith, c .before .before .before .before .before .before .before .before .before .before .before .pre .0 .3, c, c .before)) (λ c. omega (arith, c .before .before .before .before .before .before .before .before .before .before .before .pre .0 .3, c, c .before)) (λ c. search needs) write-proofs-requires (λ c. search needs) returns)
+    (tie.spec
+    (λ c κs. let s = c .before .before .before .before in let p = s .pre .0 in (p .0 .p-pos, p .1, p .2, omega (arith, s .pre .1 .near), omega (arith, s .pre .1 .enough)))
+    (λ c. let s = c .before .before .before .before .before in omega (arith, cells (s .args .n) (s .pre .0 .2)))
+    (λ c. let s = c .before .before .before .before .before in omega (arith, cells (s .args .n) (s .pre .0 .2)))
+    (λ c. let s = c .before .before .before .before .before in omega (arith, cells (s .args .n) (s .pre .0 .2))) (λ c. omega arith)
+    (λ c. omega (arith, c .before .before .page-of .ensures .0))
+    (λ c. let s = c .before .before .before .before .before .before .before in omega (arith, cells (s .args .n) (s .pre .0 .2), c .before .before .page-of .ensures .0))
+    (λ c κs. let s = c .before .before .before .before .before .before .before .before in simp (length-take, length-drop) (omega (arith, s .pre .0 .3)))
+    (λ c. omega (arith, c .before .before .before .before .before .before .before .before .before .before .before .pre .0 .3, c, c .before))
+    (λ c. omega (arith, c .before .before .before .before .before .before .before .before .before .before .before .pre .0 .3, c, c .before))
+    (λ c. omega (arith, c .before .before .before .before .before .before .before .before .before .before .before .pre .0 .3, c, c .before))
+    (λ c. search needs) write-proofs-requires (λ c. search needs) returns)

@@ -4,7 +4,7 @@ use native.Mathlib.Nat.{mul-comm}
 use native.Mathlib.Omega.{arith}
 use lib.ListN.{length, getD, length-take, length-drop}
 use denote.Ref.{now}
-use Rattle.numbers.specs.Below.{blocks}
+use Rattle.numbers.specs.Below.{concatBelow}
 use Rattle.group.specs.Elements.{parametersOf}
 use Rattle.output.specs.Written.{written}
 use Rattle.output.proofs.Laws.{none, block-more}
@@ -17,7 +17,7 @@ use Rattle.ballots.proofs.ballot.write_entries.Tie as tie
 
 abbrev Inv-loop : tie.InvT-loop
 Inv-loop out₀ label g n list page draws from count c₀ out c =
-    (c ≤ n * n) × (length out ≡ length out₀) × (out ≡ written (blocks c (entryIn label (parametersOf (g .group)) n (λ k. getD list k 0) draws from)) out₀)
+    (c ≤ n * n) × (length out ≡ length out₀) × (out ≡ written (concatBelow c (entryIn label (parametersOf (g .group)) n (λ k. getD list k 0) draws from)) out₀)
 
 abbrev μ-loop : tie.MeasureT-loop
 μ-loop out₀ label g n list page draws from count c₀ out c = n * n - c
@@ -29,7 +29,7 @@ abbrev start-from-slice-known2 : tie.After-slice-known2 Inv-loop μ-loop → tie
 start-from-slice-known2 c = start-from-loop (c .before .before .before .before .before)
 
 loop-holds : tie.Need-loop-holds Inv-loop μ-loop
-unfolding blocks
+unfolding concatBelow
 loop-holds c = (omega arith, refl, none _)
 
 write-entry-requires : tie.Need-write-entry-requires Inv-loop μ-loop
@@ -57,4 +57,10 @@ returns c =
 pub write-entries-spec : {M : Type 1} → statement M
 write-entries-spec =
     tie.close
-    (tie.spec Inv-loop μ-loop (λ c. let s = c .before .before .before .before in omega (arith, cells (s .args .n) (omega (arith, s .pre .0)))) loop-holds (λ c. let s = c .before .before .before .before .before .before in omega (arith, cells (s .args .n) (omega (arith, s .pre .0)))) (λ c. omega (arith, c .before .before .before .before .before .before .pre .0, c .before .loop .inv .1)) (λ c. omega (arith, c .before .before .before .before .before .before .pre .0, c .before .loop .inv .1)) (λ c. omega (arith, c .before .before .before .before .before .before .pre .0, c .before .loop .inv .1)) write-entry-requires (λ c. let s = (start-from-slice-known2 c) in omega (arith, cells (s .args .n) (omega (arith, s .pre .0)), c .before .before .before .before .loop-test .taken)) (λ c. search needs) loop-again (λ c. search needs) returns)
+    (tie.spec Inv-loop μ-loop (λ c. let s = c .before .before .before .before in omega (arith, cells (s .args .n) (omega (arith, s .pre .0))))
+    loop-holds (λ c. let s = c .before .before .before .before .before .before in omega (arith, cells (s .args .n) (omega (arith, s .pre .0))))
+    (λ c. omega (arith, c .before .before .before .before .before .before .pre .0, c .before .loop .inv .1))
+    (λ c. omega (arith, c .before .before .before .before .before .before .pre .0, c .before .loop .inv .1))
+    (λ c. omega (arith, c .before .before .before .before .before .before .pre .0, c .before .loop .inv .1)) write-entry-requires
+    (λ c. let s = (start-from-slice-known2 c) in omega (arith, cells (s .args .n) (omega (arith, s .pre .0)), c .before .before .before .before .loop-test .taken))
+    (λ c. search needs) loop-again (λ c. search needs) returns)

@@ -50,21 +50,12 @@ returns c =
 pub write-entry-spec : {M : Type 1} → statement M
 write-entry-spec =
     tie.close
-    (tie.spec
-    (λ c. omega (arith, c .before .before .before .before .pre .1 .0 .near))
-    (λ c. search needs)
-    (λ c. search needs)
-    opened-requires
-    (λ c. search needs)
-    (λ c. search needs)
-    (λ c. search needs)
+    (tie.spec (λ c. omega (arith, c .before .before .before .before .pre .1 .0 .near)) (λ c. search needs) (λ c. search needs) opened-requires
+    (λ c. search needs) (λ c. search needs) (λ c. search needs)
     (λ c. omega (arith, c .before .before .before .before .before .pre .0, cells (c .before .before .before .before .before .args .n) (omega (arith, c .before .before .before .before .before .pre .0))))
     (λ c. omega (arith, c .before .before .before .before .before .pre .0, c .before .before .before .before .before .pre .1 .0 .near, cells (c .before .before .before .before .before .args .n) (omega (arith, c .before .before .before .before .before .pre .0))))
     (λ c. omega (arith, c .before .before .before .before .before .pre .0, cells (c .before .before .before .before .before .args .n) (omega (arith, c .before .before .before .before .before .pre .0))))
     (λ c. omega (arith, c .before .before .before .before .before .pre .0, c .before .before .before .before .before .pre .1 .0 .near, cells (c .before .before .before .before .before .args .n) (omega (arith, c .before .before .before .before .before .pre .0))))
     (λ c. omega (arith, c .before .before .before .before .before .pre .0, cells (c .before .before .before .before .before .args .n) (omega (arith, c .before .before .before .before .before .pre .0))))
     (λ c. omega (arith, c .before .before .before .before .before .before .pre .0, c .before .before .before .before .before .before .pre .1 .0 .enough))
-    (λ c. search needs)
-    make-requires
-    (λ c. search needs)
-    returns)
+    (λ c. search needs) make-requires (λ c. search needs) returns)

@@ -4,7 +4,7 @@ use native.Mathlib.Nat.{mul-comm}
 use native.Mathlib.Omega.{arith}
 use lib.ListN.{length, length-take, length-drop}
 use denote.Ref.{now}
-use Rattle.numbers.specs.Below.{blocks}
+use Rattle.numbers.specs.Below.{concatBelow}
 use Rattle.group.specs.Elements.{parametersOf}
 use Rattle.rules.specs.Claims.{Matrix}
 use Rattle.output.specs.Written.{written}
@@ -17,7 +17,7 @@ use Rattle.ballots.proofs.lines.write_lines.Tie as tie
 
 abbrev Inv-loop : tie.InvT-loop
 Inv-loop out₀ label g page n draws from count t₀ out t =
-    (t ≤ n + n) × (length out ≡ length out₀) × ((M : Matrix) → out ≡ written (blocks t (lineOf label (parametersOf (g .group)) n M draws from)) out₀)
+    (t ≤ n + n) × (length out ≡ length out₀) × ((M : Matrix) → out ≡ written (concatBelow t (lineOf label (parametersOf (g .group)) n M draws from)) out₀)
 
 abbrev μ-loop : tie.MeasureT-loop
 μ-loop out₀ label g page n draws from count t₀ out t = n + n - t
@@ -29,7 +29,7 @@ abbrev start-from-slice-known2 : tie.After-slice-known2 Inv-loop μ-loop → tie
 start-from-slice-known2 c = start-from-loop (c .before .before .before .before .before)
 
 loop-holds : tie.Need-loop-holds Inv-loop μ-loop
-unfolding blocks
+unfolding concatBelow
 loop-holds c = (omega arith, refl, λ M. none _)
 
 write-line-requires : tie.Need-write-line-requires Inv-loop μ-loop
@@ -57,4 +57,10 @@ returns c =
 pub write-lines-spec : {M : Type 1} → statement M
 write-lines-spec =
     tie.close
-    (tie.spec Inv-loop μ-loop (λ c. omega (arith, c .before .before .before .before .pre .0 .2)) loop-holds (λ c. omega (arith, c .before .before .before .before .before .before .pre .0 .2)) (λ c. omega (arith, c .before .before .before .before .before .before .pre .0, c .before .loop .inv .1)) (λ c. omega (arith, c .before .before .before .before .before .before .pre .0, c .before .loop .inv .1)) (λ c. omega (arith, c .before .before .before .before .before .before .pre .0, c .before .loop .inv .1)) write-line-requires (λ c. omega (arith, (start-from-slice-known2 c) .pre .0 .2, c .before .before .before .before .loop-test .taken)) (λ c. search needs) loop-again (λ c. search needs) returns)
+    (tie.spec Inv-loop μ-loop (λ c. omega (arith, c .before .before .before .before .pre .0 .2)) loop-holds
+    (λ c. omega (arith, c .before .before .before .before .before .before .pre .0 .2))
+    (λ c. omega (arith, c .before .before .before .before .before .before .pre .0, c .before .loop .inv .1))
+    (λ c. omega (arith, c .before .before .before .before .before .before .pre .0, c .before .loop .inv .1))
+    (λ c. omega (arith, c .before .before .before .before .before .before .pre .0, c .before .loop .inv .1)) write-line-requires
+    (λ c. omega (arith, (start-from-slice-known2 c) .pre .0 .2, c .before .before .before .before .loop-test .taken)) (λ c. search needs) loop-again
+    (λ c. search needs) returns)

@@ -11,7 +11,7 @@ returns c =
     let s = c .before .before .before .before .before .before .before .before .before .before .before .before .before .before in
     let two : length (s .args .mark) ≡ 2 = omega (arith, s .good) in
     more _ _ _ _ _ _ (simp length-append (omega arith))
-    (more _ _ _ _ _ _ two (c .before .before .before .before .before .before .before .before .before .before .put-two .ensures) (c .before .before .before .before .before .before .put-half .ensures))
+    (more _ _ _ _ _ _ two (c .before .before .before .before .before .before .before .before .before .before .put-two .ensures) (c .before .before .before .before .before .before .put-number2 .ensures))
     (c .before .before .put-bytes .ensures)
 
 pub put-front-spec : {M : Type 1} → statement M

@@ -6,7 +6,7 @@ use Rattle.ballots.proofs.pairs.put_pair.Tie as tie
 
 returns : tie.Need-returns
 returns c =
-    more _ _ _ _ _ _ refl (c .before .before .before .before .before .before .put-word .ensures) (c .before .before .put-word2 .ensures)
+    more _ _ _ _ _ _ refl (c .before .before .before .before .before .before .put-number4 .ensures) (c .before .before .put-number42 .ensures)
     ∙ rw (c .before .before .before .before .before .before .before .before .before .mul .ensures, c .before .before .before .before .before .before .before .before .pow3 .ensures, c .before .before .before .before .before .before .before .before .before .before .pow2 .ensures, c .before .before .before .before .before .before .before .before .before .before .before .pow .ensures)
 
 pub put-pair-spec : {M : Type 1} → statement M

@@ -6,7 +6,7 @@ use native.Mathlib.Omega.{arith}
 use lib.ListN.{length, getD, length-take, length-drop}
 use borrow.Rule.Slice.PartMut.{midOf}
 use denote.Ref.{now}
-use Rattle.numbers.specs.Below.{blocks}
+use Rattle.numbers.specs.Below.{concatBelow}
 use Rattle.group.specs.Elements.{parametersOf}
 use Rattle.output.specs.Written.{written}
 use Rattle.output.proofs.Laws.{none, block-more}
@@ -20,7 +20,7 @@ use Rattle.ballots.proofs.pairs.write_pairs.Tie as tie
 abbrev Inv-loop : tie.InvT-loop
 Inv-loop out₀ g n rows list draws from count c₀ out c =
     (c ≤ count) × (count ≤ 64) × (count ≡ rows * n) × (length out ≡ length out₀)
-    × (out ≡ written (blocks c (pairIn n (matrixOf (parametersOf g) n (λ k. getD list k 0) draws from))) out₀)
+    × (out ≡ written (concatBelow c (pairIn n (matrixOf (parametersOf g) n (λ k. getD list k 0) draws from))) out₀)
 
 abbrev μ-loop : tie.MeasureT-loop
 μ-loop out₀ g n rows list draws from count c₀ out c = count - c
@@ -32,7 +32,7 @@ abbrev start-from-slice-known2 : tie.After-slice-known2 Inv-loop μ-loop → tie
 start-from-slice-known2 c = start-from-shared-slice-known2 (c .before .before .before .before .before)
 
 loop-holds : tie.Need-loop-holds Inv-loop μ-loop
-unfolding blocks
+unfolding concatBelow
 loop-holds c = let s = c .before .before in (omega arith, few-pairs (s .args .rows) (s .args .n) (omega (arith, s .pre)) (omega (arith, s .pre)), refl, refl, none _)
 
 loop-again : tie.Need-loop-again Inv-loop μ-loop
@@ -67,4 +67,14 @@ opened-requires c κs =
 pub write-pairs-spec : {M : Type 1} → statement M
 write-pairs-spec =
     tie.close
-    (tie.spec Inv-loop μ-loop (λ c. let s = c .before .before in omega (arith, few-pairs (s .args .rows) (s .args .n) (omega (arith, s .pre)) (omega (arith, s .pre)))) loop-holds (λ c. omega (arith, c .before .loop .inv .1)) (λ c. omega (arith, c .before .before .before .before .pre, c .before .loop .inv .1)) (λ c. search needs) (λ c. omega (arith, c .before .before .before .before .before .pre, c .before .before .loop .inv .2)) (λ c. search needs) (λ c. search needs) opened-requires (λ c. omega (arith, c .before .before .before .before .before .before .pre, c .before .before .before .loop .inv .2, c .before .before .before .loop .inv .3)) (λ c. omega (arith, c .before .before .before .before .before .before .pre, c .before .before .before .loop .inv .2, c .before .before .before .loop .inv .3)) (λ c. omega (arith, c .before .before .before .before .before .before .pre, c .before .before .before .loop .inv .2, c .before .before .before .loop .inv .3)) (λ c κs. (omega (arith, (start-from-shared-slice-known2 (c .before .before)) .pre), simp (length-take, length-drop) (omega (arith, (start-from-shared-slice-known2 (c .before .before)) .pre, c .before .before .before .before .loop .inv .2, c .before .before .before .before .loop .inv .3)))) (λ c. omega (arith, c .before .before .before .before .before .before .loop-test .taken, c .before .before .before .before .before .before .before .loop .inv .1)) (λ c. search needs) loop-again (λ c. search needs) returns)
+    (tie.spec Inv-loop μ-loop
+    (λ c. let s = c .before .before in omega (arith, few-pairs (s .args .rows) (s .args .n) (omega (arith, s .pre)) (omega (arith, s .pre))))
+    loop-holds (λ c. omega (arith, c .before .loop .inv .1)) (λ c. omega (arith, c .before .before .before .before .pre, c .before .loop .inv .1))
+    (λ c. search needs) (λ c. omega (arith, c .before .before .before .before .before .pre, c .before .before .loop .inv .2)) (λ c. search needs)
+    (λ c. search needs) opened-requires
+    (λ c. omega (arith, c .before .before .before .before .before .before .pre, c .before .before .before .loop .inv .2, c .before .before .before .loop .inv .3))
+    (λ c. omega (arith, c .before .before .before .before .before .before .pre, c .before .before .before .loop .inv .2, c .before .before .before .loop .inv .3))
+    (λ c. omega (arith, c .before .before .before .before .before .before .pre, c .before .before .before .loop .inv .2, c .before .before .before .loop .inv .3))
+    (λ c κs. (omega (arith, (start-from-shared-slice-known2 (c .before .before)) .pre), simp (length-take, length-drop) (omega (arith, (start-from-shared-slice-known2 (c .before .before)) .pre, c .before .before .before .before .loop .inv .2, c .before .before .before .before .loop .inv .3))))
+    (λ c. omega (arith, c .before .before .before .before .before .before .loop-test .taken, c .before .before .before .before .before .before .before .loop .inv .1))
+    (λ c. search needs) loop-again (λ c. search needs) returns)

@@ -42,4 +42,13 @@ returns c =
 pub write-shift-spec : {M : Type 1} → statement M
 write-shift-spec =
     tie.close
-    (tie.spec (λ c. omega (arith, few c)) (λ c κs. c .before .before .before .before .before .pre .0 .1) (λ c. omega (arith, few (c .before))) (λ c. omega (arith, few (c .before))) (λ c. omega arith) (λ c. omega (arith, c .before .before .pages-of .ensures .0)) (λ c. omega (arith, few (c .before .before .before), c .before .before .pages-of .ensures .0)) (λ c κs. simp (length-take, length-drop) (omega (arith, c .before .before .before .before .before .before .before .before .before .pre .1))) (λ c. omega (arith, few (c .before .before .before .before .before .before .before))) (λ c. omega (arith, few (c .before .before .before .before .before .before .before))) (λ c. omega (arith, c .before .before .before .before .before .before .before .before .before .before .before .before .pre .1, c, c .before)) (λ c. omega (arith, c .before .before .before .before .before .before .before .before .before .before .before .before .pre .1, c, c .before)) (λ c. omega (arith, c .before .before .before .before .before .before .before .before .before .before .before .before .pre .1, c, c .before)) (λ c. search needs) write-shift-proof-requires (λ c. search needs) returns)
+    (tie.spec (λ c. omega (arith, few c)) (λ c κs. c .before .before .before .before .before .pre .0 .1) (λ c. omega (arith, few (c .before)))
+    (λ c. omega (arith, few (c .before))) (λ c. omega arith) (λ c. omega (arith, c .before .before .pages-of .ensures .0))
+    (λ c. omega (arith, few (c .before .before .before), c .before .before .pages-of .ensures .0))
+    (λ c κs. simp (length-take, length-drop) (omega (arith, c .before .before .before .before .before .before .before .before .before .pre .1)))
+    (λ c. omega (arith, few (c .before .before .before .before .before .before .before)))
+    (λ c. omega (arith, few (c .before .before .before .before .before .before .before)))
+    (λ c. omega (arith, c .before .before .before .before .before .before .before .before .before .before .before .before .pre .1, c, c .before))
+    (λ c. omega (arith, c .before .before .before .before .before .before .before .before .before .before .before .before .pre .1, c, c .before))
+    (λ c. omega (arith, c .before .before .before .before .before .before .before .before .before .before .before .before .pre .1, c, c .before))
+    (λ c. search needs) write-shift-proof-requires (λ c. search needs) returns)

@@ -39,18 +39,11 @@ returns c =
 pub sum-of-spec : {M : Type 1} → statement M
 sum-of-spec =
     tie.close
-    (tie.spec
-    Inv-loop
-    μ-loop
-    loop-holds
+    (tie.spec Inv-loop μ-loop loop-holds
     (λ c. omega (arith, stride-up (c .before .before .before .before .args .stride) (c .before .before .loop .i) (c .before .before .before .before .args .count) (omega arith), c .before .before .before .before))
     (λ c. omega (arith, stride-up (c .before .before .before .before .args .stride) (c .before .before .loop .i) (c .before .before .before .before .args .count) (omega arith), c .before .before .before .before))
     (λ c. omega (arith, stride-up (c .before .before .before .before .args .stride) (c .before .before .loop .i) (c .before .before .before .before .args .count) (omega arith), c .before .before .before .before))
     (λ c. omega (arith, stride-up (c .before .before .before .before .before .args .stride) (c .before .before .before .loop .i) (c .before .before .before .before .before .args .count) (omega arith), c .before .before .before .before .before))
     (λ c. omega (arith, c .shared-slice-known2 .given (c .before .before .before .before .before .args .at + c .before .before .before .before .before .args .stride * c .before .before .before .loop .i)))
     (λ c. omega (arith, c .shared-slice-known2 .given (c .before .before .before .before .before .args .at + c .before .before .before .before .before .args .stride * c .before .before .before .loop .i)))
-    (λ c. search needs)
-    (λ c. search needs)
-    loop-again
-    (λ c κs. search needs)
-    returns)
+    (λ c. search needs) (λ c. search needs) loop-again (λ c κs. search needs) returns)

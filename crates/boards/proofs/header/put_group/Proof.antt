@@ -6,7 +6,7 @@ use Rattle.boards.proofs.header.put_group.Tie as tie
 
 returns : tie.Need-returns
 returns c =
-    more _ _ _ _ _ _ refl (more _ _ _ _ _ _ refl (more _ _ _ _ _ _ refl (more _ _ _ _ _ _ refl (c .before .before .before .before .before .before .before .before .before .before .before .before .before .before .before .before .before .before .put-word .ensures) (c .before .before .before .before .before .before .before .before .before .before .before .before .before .before .put-word2 .ensures)) (c .before .before .before .before .before .before .before .before .before .before .put-word3 .ensures)) (c .before .before .before .before .before .before .put-byte .ensures)) (c .before .before .put-word4 .ensures)
+    more _ _ _ _ _ _ refl (more _ _ _ _ _ _ refl (more _ _ _ _ _ _ refl (more _ _ _ _ _ _ refl (c .before .before .before .before .before .before .before .before .before .before .before .before .before .before .before .before .before .before .put-number4 .ensures) (c .before .before .before .before .before .before .before .before .before .before .before .before .before .before .put-number42 .ensures)) (c .before .before .before .before .before .before .before .before .before .before .put-number43 .ensures)) (c .before .before .before .before .before .before .put-byte .ensures)) (c .before .before .put-number44 .ensures)
 
 pub put-group-spec : {M : Type 1} → statement M
 put-group-spec =

@@ -3,7 +3,7 @@ use mathlib.Core.Path.{_≡_, refl, sym, ap, _∙_}
 use native.Mathlib.Omega.{arith}
 use lib.ListN.{length, length-take, length-drop}
 use denote.Ref.{now}
-use Rattle.numbers.specs.Below.{blocks}
+use Rattle.numbers.specs.Below.{concatBelow}
 use Rattle.sha256.specs.Message.{sha256}
 use Rattle.group.specs.Elements.{parametersOf}
 use Rattle.jobs.specs.Board.{recordBytes}
@@ -18,12 +18,12 @@ use Rattle.boards.proofs.records.write_records.Statement.{statement}
 use Rattle.boards.proofs.records.write_records.Tie as tie
 
 abbrev Inv-loop : tie.InvT-loop
-Inv-loop out₀ label g size rankings draws turn k width b₀ out b =
+Inv-loop out₀ label g size rankings draws plan k width b₀ out b =
     (b ≤ k) × (length out ≡ length out₀)
-    × (out ≡ written (blocks b (recordBytes sha256 (boardJob size (parametersOf (g .group)) label rankings draws) (parametersOf (g .group)) (listOf (turn .before)) (turn .a) (turn .m))) out₀)
+    × (out ≡ written (concatBelow b (recordBytes sha256 (boardJob size (parametersOf (g .group)) label rankings draws) (parametersOf (g .group)) (listOf (plan .before)) (plan .a) (plan .m))) out₀)
 
 abbrev μ-loop : tie.MeasureT-loop
-μ-loop out₀ label g size rankings draws turn k width b₀ out b = k - b
+μ-loop out₀ label g size rankings draws plan k width b₀ out b = k - b
 
 abbrev start-from-record-length : tie.After-record-length Inv-loop μ-loop → tie.Start Inv-loop μ-loop
 start-from-record-length c = c .before .before .before .before .before
@@ -32,7 +32,7 @@ abbrev start-from-out : tie.After-out Inv-loop μ-loop → tie.Start Inv-loop μ
 start-from-out c = start-from-record-length (c .before .before .before .before .before)
 
 loop-holds : tie.Need-loop-holds Inv-loop μ-loop
-unfolding blocks
+unfolding concatBelow
 loop-holds c = (omega arith, refl, none _)
 
 -- the record and its end are within the records
@@ -57,8 +57,8 @@ loop-again c =
     let r = c .before .before .before .before .before .before .record-length in (
       omega arith,
       search needs,
-      block-more (recordBytes sha256 job g (listOf (f .turn .before)) (f .turn .a) (f .turn .m)) (r .result) (l .b) _ _ (l .out) _
-          (λ j h. length-record sha256 job g (listOf (f .turn .before)) (f .turn .a) (f .turn .m) j ∙ sym (r .ensures .0)) refl (l .inv .2) (c .before .before .write-record .ensures),
+      block-more (recordBytes sha256 job g (listOf (f .plan .before)) (f .plan .a) (f .plan .m)) (r .result) (l .b) _ _ (l .out) _
+          (λ j h. length-record sha256 job g (listOf (f .plan .before)) (f .plan .a) (f .plan .m) j ∙ sym (r .ensures .0)) refl (l .inv .2) (c .before .before .write-record .ensures),
     )
 
 returns : tie.Need-returns Inv-loop μ-loop
@@ -70,4 +70,9 @@ returns c =
 pub write-records-spec : {M : Type 1} → statement M
 write-records-spec =
     tie.close
-    (tie.spec Inv-loop μ-loop (λ c κs. (c .before .before .before .before .pre .1 .n-high, omega (arith, c .before .before .before .before .pre .1 .early))) loop-holds (λ c. omega (arith, within c, (start-from-record-length (c .before .before)) .good)) (λ c. omega (arith, within c, c .before .loop .inv .1)) (λ c. omega (arith, within c, c .before .loop .inv .1)) (λ c. omega (arith, within c, c .before .loop .inv .1)) write-record-requires (λ c. omega (arith, c .before .before .before .before .loop-test .taken, (start-from-out (c .before)) .pre .1 .K-high)) (λ c. search needs) loop-again (λ c. search needs) returns)
+    (tie.spec Inv-loop μ-loop
+    (λ c κs. (c .before .before .before .before .pre .1 .n-high, omega (arith, c .before .before .before .before .pre .1 .early))) loop-holds
+    (λ c. omega (arith, within c, (start-from-record-length (c .before .before)) .good)) (λ c. omega (arith, within c, c .before .loop .inv .1))
+    (λ c. omega (arith, within c, c .before .loop .inv .1)) (λ c. omega (arith, within c, c .before .loop .inv .1)) write-record-requires
+    (λ c. omega (arith, c .before .before .before .before .loop-test .taken, (start-from-out (c .before)) .pre .1 .K-high)) (λ c. search needs)
+    loop-again (λ c. search needs) returns)

@@ -3,7 +3,7 @@ use lib.ListN.{length-take, length-drop}
 use denote.Ref.{now}
 use Prim.Native.Nat.{_-_}
 use Rattle.output.proofs.Laws.{more}
-use Rattle.boards.proofs.Stages.{length-header}
+use Rattle.boards.proofs.RoundPlans.{length-header}
 use borrow.Author.Needs.{needs}
 use Rattle.boards.proofs.rounds.write_board.Statement.{statement}
 use Rattle.boards.proofs.rounds.write_board.Tie as tie
@@ -25,4 +25,9 @@ returns c = let p = (start-from-write-rounds-arg (c .before .before .before)) .p
 pub write-board-spec : {M : Type 1} → statement M
 write-board-spec =
     tie.close
-    (tie.spec (λ c κs. let p = c .before .before .before .before .before .before .pre in (omega (arith, p .0 .1 .n-high), omega (arith, p .0 .1 .K-high), p .1 .0, p .1 .1)) (λ c. omega (arith, c .before .before .before .before .before .before .before .before .before .pre .1, c, c .before)) (λ c. omega (arith, c .before .before .before .before .before .before .before .before .before .pre .1, c, c .before)) (λ c. omega (arith, c .before .before .before .before .before .before .before .before .before .pre .1, c, c .before)) write-rounds-requires (λ c. search needs) returns)
+    (tie.spec
+    (λ c κs. let p = c .before .before .before .before .before .before .pre in (omega (arith, p .0 .1 .n-high), omega (arith, p .0 .1 .K-high), p .1 .0, p .1 .1))
+    (λ c. omega (arith, c .before .before .before .before .before .before .before .before .before .pre .1, c, c .before))
+    (λ c. omega (arith, c .before .before .before .before .before .before .before .before .before .pre .1, c, c .before))
+    (λ c. omega (arith, c .before .before .before .before .before .before .before .before .before .pre .1, c, c .before)) write-rounds-requires
+    (λ c. search needs) returns)

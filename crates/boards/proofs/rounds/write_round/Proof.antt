@@ -10,13 +10,13 @@ use Rattle.jobs.specs.Job as J
 use Rattle.jobs.specs.Job.{recordDraws}
 use Rattle.boards.specs.Parts.{boardJob}
 use Rattle.jobs.proofs.Draws.{columns-within, draws-mono}
-use Rattle.boards.proofs.Stages.{turned, records-are, round-joined}
+use Rattle.boards.proofs.RoundPlans.{turned, records-are, round-joined}
 use borrow.Author.Needs.{needs}
 use Rattle.boards.proofs.rounds.write_round.Statement.{statement}
 use Rattle.boards.proofs.rounds.write_round.Tie as tie
 
 -- where the round's turn is known, the start
-abbrev entry : tie.After-turn-of → tie.Start
+abbrev entry : tie.After-plan-of → tie.Start
 entry c = c .before .before .before .before .before .before .before .before .before
 
 abbrev jobAt : tie.Start → J.Job
@@ -29,7 +29,7 @@ below s = (s .pre .0 .1 .n-high, omega (arith, s .pre .0 .1 .few))
 write-records-requires : tie.Need-write-records-requires
 write-records-requires c κs =
     let s = entry (c .before) in
-    let w = c .before .turn-of .ensures in
+    let w = c .before .plan-of .ensures in
     (s .pre .0 .0, turned (jobAt s) (s .args .count .gone .order) (s .args .m) _ (s .pre .0 .1) w, rw (w .round) (omega (arith, s .pre .1 .1)))
 
 -- where the sheet starts
@@ -64,7 +64,7 @@ returns c =
     let s = entry t in
     let f = s .args in
     let g = parametersOf (f .g .group) in
-    let w = t .turn-of .ensures in
+    let w = t .plan-of .ensures in
     let l = c .before .before .before .before .before .before in
     round-joined sha256 (jobAt s) g (f .count .gone .order) (f .m) (l .record-length .result) (f .from) _ _ (now (f .out)) _ _ _ _ (l .record-length .ensures .0) (s .pre .1 .0)
     (c .before .before .before .before .before .record-draws .ensures .0) (c .before .before .before .low .ensures) (records-are (jobAt s) (f .count .gone .order) (f .m) _ (s .pre .0 .1) w sha256 g)
@@ -82,7 +82,8 @@ write-round-spec =
     write-records-requires (λ c κs. below (entry (c .before .before .before .before)))
     (λ c. omega (arith, start c, entry (c .before .before .before .before .before) .pre .1 .1, entry (c .before .before .before .before .before) .good))
     (λ c κs. below (entry (c .before .before .before .before .before))) (λ c. omega (arith, part c, c .before .before, c .before .before .before))
-    (λ c. omega (arith, part c, c .before .before, c .before .before .before)) (λ c. omega (arith, part c, c .before .before, c .before .before .before))
+    (λ c. omega (arith, part c, c .before .before, c .before .before .before))
+    (λ c. omega (arith, part c, c .before .before, c .before .before .before))
     (λ c κs. omega (arith, below (entry (c .before .before .before .before .before .before .before))))
     (λ c. omega (arith, below (entry (c .before .before .before .before .before .before .before .before)), entry (c .before .before .before .before .before .before .before .before) .good))
     write-sheet-requires (λ c. search needs) returns)

@@ -3,7 +3,7 @@ use mathlib.Core.Path.{_≡_, refl, ap, _∙_}
 use native.Mathlib.Omega.{arith}
 use lib.ListN.{length, length-take, length-drop}
 use denote.Ref.{now}
-use Rattle.numbers.specs.Below.{blocks}
+use Rattle.numbers.specs.Below.{concatBelow}
 use Rattle.sha256.specs.Message.{sha256}
 use Rattle.group.specs.Elements.{parametersOf}
 use Rattle.rules.specs.Records.{recordLength, sheetLength, roundAt}
@@ -11,9 +11,9 @@ use Rattle.jobs.specs.Job.{roundDraws}
 use Rattle.output.specs.Written.{written}
 use Rattle.output.proofs.Laws.{none}
 use Rattle.plain.proofs.Counted.{draws-more, length-more}
-use Rattle.boards.specs.Parts.{boardJob, roundOf}
+use Rattle.boards.specs.Parts.{boardJob, roundBytes}
 use Rattle.jobs.proofs.Draws.{draws-mono}
-use Rattle.boards.proofs.Stages.{place-mono, place-next, able-down, rounds-more}
+use Rattle.boards.proofs.RoundPlans.{place-mono, place-next, able-down, rounds-more}
 use borrow.Author.Needs.{needs}
 use Rattle.boards.proofs.rounds.write_rounds.Statement.{statement}
 use Rattle.boards.proofs.rounds.write_rounds.Tie as tie
@@ -21,7 +21,7 @@ use Rattle.boards.proofs.rounds.write_rounds.Tie as tie
 abbrev Inv-loop : tie.InvT-loop
 Inv-loop out₀ label g size rankings draws count n k end at₀ from₀ m₀ out at from m =
     (m ≤ end) × (end ≡ count .gone .outs + 1) × (length out ≡ length out₀) × (at + 54 ≡ roundAt (size .n) (size .k) m) × (from ≡ roundDraws (size .n) (size .k) m)
-    × (out ≡ written (blocks m (roundOf sha256 (boardJob size (parametersOf (g .group)) label rankings draws) (parametersOf (g .group)) (count .gone .order))) out₀)
+    × (out ≡ written (concatBelow m (roundBytes sha256 (boardJob size (parametersOf (g .group)) label rankings draws) (parametersOf (g .group)) (count .gone .order))) out₀)
 
 abbrev μ-loop : tie.MeasureT-loop
 μ-loop out₀ label g size rankings draws count n k end at₀ from₀ m₀ out at from m = end - m
@@ -30,7 +30,7 @@ abbrev loop-from-record-length : tie.After-record-length Inv-loop μ-loop → ti
 loop-from-record-length c = c .before .before .before .before .before
 
 loop-holds : tie.Need-loop-holds Inv-loop μ-loop
-unfolding blocks roundAt roundDraws
+unfolding concatBelow roundAt roundDraws
 loop-holds c = (omega arith, refl, refl, refl, refl, none _)
 
 -- where the loop is entered
@@ -116,4 +116,16 @@ returns c =
 pub write-rounds-spec : {M : Type 1} → statement M
 write-rounds-spec =
     tie.close
-    (tie.spec Inv-loop μ-loop (λ c. omega (arith, c .before .before .before .before .before .pre .1 .few, c .before .before .before .before .before .pre .1 .n-high)) loop-holds (λ c. omega (arith, within c, c .before .loop .inv .2)) (λ c. omega (arith, within c, c .before .loop .inv .2)) (λ c. omega (arith, within c, c .before .loop .inv .2)) write-round-requires (λ c κs. below (c .before .before .before .before)) (λ c. omega (arith, inside c, entry (c .before .before .before .before .before) .good)) (λ c κs. below (c .before .before .before .before .before) .0) (λ c. omega (arith, inside (c .before), c .sheet-length .ensures, entry (c .before .before .before .before .before .before) .good)) (λ c. omega (arith, inside (c .before), c .sheet-length .ensures, entry (c .before .before .before .before .before .before) .good)) (λ c κs. below (c .before .before .before .before .before .before)) (λ c. omega (arith, draws-next c, near ((loop-from-record-length (c .before .before))))) (λ c. omega (arith, draws-next c, near ((loop-from-record-length (c .before .before))))) (λ c. omega (arith, below ((loop-from-record-length (c .before .before))))) (λ c. omega (arith, (loop-from-record-length (c .before .before)) .loop-test .taken)) loop-again (λ c. search needs) returns)
+    (tie.spec Inv-loop μ-loop
+    (λ c. omega (arith, c .before .before .before .before .before .pre .1 .few, c .before .before .before .before .before .pre .1 .n-high)) loop-holds
+    (λ c. omega (arith, within c, c .before .loop .inv .2)) (λ c. omega (arith, within c, c .before .loop .inv .2))
+    (λ c. omega (arith, within c, c .before .loop .inv .2)) write-round-requires (λ c κs. below (c .before .before .before .before))
+    (λ c. omega (arith, inside c, entry (c .before .before .before .before .before) .good))
+    (λ c κs. below (c .before .before .before .before .before) .0)
+    (λ c. omega (arith, inside (c .before), c .sheet-length .ensures, entry (c .before .before .before .before .before .before) .good))
+    (λ c. omega (arith, inside (c .before), c .sheet-length .ensures, entry (c .before .before .before .before .before .before) .good))
+    (λ c κs. below (c .before .before .before .before .before .before))
+    (λ c. omega (arith, draws-next c, near ((loop-from-record-length (c .before .before)))))
+    (λ c. omega (arith, draws-next c, near ((loop-from-record-length (c .before .before)))))
+    (λ c. omega (arith, below ((loop-from-record-length (c .before .before)))))
+    (λ c. omega (arith, (loop-from-record-length (c .before .before)) .loop-test .taken)) loop-again (λ c. search needs) returns)

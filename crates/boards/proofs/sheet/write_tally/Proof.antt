@@ -9,7 +9,7 @@ use Rattle.boards.proofs.sheet.write_tally.Tie as tie
 returns : tie.Need-returns
 returns c =
     let f = c .before .before .before .before .before .before .before .before .before .before .before .args in
-    more _ _ _ _ _ _ refl (c .before .before .before .before .before .before .put-half .ensures) (c .before .before .put-word .ensures)
+    more _ _ _ _ _ _ refl (c .before .before .before .before .before .before .put-number2 .ensures) (c .before .before .put-number4 .ensures)
     ∙ rw (c .before .before .before .before .before .before .before .before .sum-of .ensures, tally-is (now (f .draws)) (f .from) (f .stride) (f .k))
 
 pub write-tally-spec : {M : Type 1} → statement M

@@ -11,7 +11,7 @@ returns : tie.Need-returns
 returns c =
     let a = c .before .before .before .args in
     let rest = drop (a .at) (now (a .board)) in
-    rw (take-all (length (now (a .board)) - a .at) rest (simp length-drop (omega arith))) at (c .«open» .ensures)
+    rw (take-all (length (now (a .board)) - a .at) rest (simp length-drop (omega arith))) at (c .read-header .ensures)
 
 pub header-at-spec : {M : Type 1} → statement M
 header-at-spec = tie.close (tie.spec (λ c. search needs) (λ c. search needs) (λ c. search needs) (λ c κs. search needs) returns)

@@ -1,6 +1,3 @@
--- `header_of` meets its contract: a walk of its MIR, by hand. The struct is taken apart, and `header_at` is called on the slice and the place. All that the proof knows of `header_at` is that it meets its contract.
--- The struct is Copy: what it owns is had twice, one copy is kept whole for the exit, and of the other what the board owns goes to the callee, beside the lifetime's token, which comes back.
--- Assumes nothing.
 use mathlib.Core.Path.{refl}
 use Prim.Native.Nat.{_<_, _≤_, _^_}
 use mathlib.Core.List.{[], _∷_}
@@ -39,13 +36,13 @@ use denote.Triple.Table.{entered, cited}
 use denote.Triple.Walked.{says, needs, Stays, stay-none, walkOf, goes-none, Walks, ends-at, walked, walk-meets}
 use denote.Exit.{yes}
 use denote.Triple.Clauses.{ensured, lasts}
-use Rattle.records.specs.Heads.{Opening}
+use Rattle.records.specs.Heads.{HeaderReads}
 use Rattle.checker.specs.declared.reading.Reading.{Reading}
-use Rattle.records.specs.declared.header.Opened.{Opened}
+use Rattle.records.specs.declared.header.HeaderRead.{HeaderRead}
 use Rattle.checker.proofs.reading.Reading as T
 use Rattle.checker.proofs.reading.Reading.Laws as T′
-use Rattle.records.proofs.header.Opened as S
-use Rattle.records.proofs.header.Opened.Laws as S′
+use Rattle.records.proofs.header.HeaderRead as S
+use Rattle.records.proofs.header.HeaderRead.Laws as S′
 use Rattle.checker.proofs.reading.header_at as header-at
 use Rattle.checker.proofs.reading.header_at.Symbol as header-at-def
 use Rattle.checker.proofs.reading.header_at.Symbol.{name as #checker·reading·header-at}
@@ -68,8 +65,8 @@ module _ {M : Type 1} (𝓤 : URA M) (H : Heap 𝓤) (A : Atoms 𝓤) (W : Given
   abbrev mach : Val
   mach = T′.lowered d
 
-  abbrev Found : Opened → Type 0
-  Found = Opening (dropped (d .next) (now (d .board)))
+  abbrev Found : HeaderRead → Type 0
+  Found = HeaderReads (dropped (d .next) (now (d .board)))
 
   abbrev Post : Val → SProp 𝓤
   Post = walkOf 𝓤 H A header-of.ended stayed (header-of.clauses 𝓤 H A mem run) .post (((κ, tt), (q, tt), tt, (d, tt), (mach ∷ [], tt)), tt)
@@ -94,10 +91,10 @@ module _ {M : Type 1} (𝓤 : URA M) (H : Heap 𝓤) (A : Atoms 𝓤) (W : Given
       move ! (2 ∷ 0 ∷ []) $ use2 W (raw (HeaderAt 𝓤 H A mem run .pre to)) (asked within) $ frame ! $ done !
 
   -- of the callee's `ensured`, the clause alone: it has no `&mut`, so what is said of last values is dropped
-  said : (r : Opened) → ent 𝓤 (ensured 𝓤 H A header-at.ended (header-at.clauses 𝓤 H A mem run) (κ, tt) (d .board, (d .next, tt)) tt r) (fact 𝓤 (Found r))
+  said : (r : HeaderRead) → ent 𝓤 (ensured 𝓤 H A header-at.ended (header-at.clauses 𝓤 H A mem run) (κ, tt) (d .board, (d .next, tt)) tt r) (fact 𝓤 (Found r))
   said r = exE 𝓤 _ (λ ws. snd∗ 𝓤 (sem 𝓤 H A (lasts header-at.ended (κ, tt) (d .board, (d .next, tt)) ws)) (fact 𝓤 (Found r)))
 
-  exits : (r : Opened) (u : Val) → Found r → ent 𝓤 (⋆ 𝓤 H A (‵ (S.the-row .own r (u ∷ [])) ∷ (‵ (flft κ q) ⊛ ‵ ftrue) ∷ ‵ (Own κ d) ∷ [])) (Post u)
+  exits : (r : HeaderRead) (u : Val) → Found r → ent 𝓤 (⋆ 𝓤 H A (‵ (S.the-row .own r (u ∷ [])) ∷ (‵ (flft κ q) ⊛ ‵ ftrue) ∷ ‵ (Own κ d) ∷ [])) (Post u)
   exits r u e =
       qed W (‵ (S.the-row .own r (u ∷ [])) ∷ (‵ (flft κ q) ⊛ ‵ ftrue) ∷ ‵ (Own κ d) ∷ []) ∵
       suffices ! _ (ends-at 𝓤 H A header-of.ended stayed (header-of.clauses 𝓤 H A mem run) W (((κ, tt), (q, tt), tt, (d, tt), (mach ∷ [], tt)), tt) u r (tt, tt) (tt, tt)) $ says ! e $
@@ -112,7 +109,7 @@ module _ {M : Type 1} (𝓤 : URA M) (H : Heap 𝓤) (A : Atoms 𝓤) (W : Given
         assigns ! (of-opd ! (load ! (from ! (fld ! refl (stop !))) (look-in ! 4 (sub ! 1 refl (whole !))))) (from ! (stop !)) (init ! 0 refl (tt, wt .1 .1 .0)) $
         move ! (8 ∷ []) $ use1 W (raw (HeaderAt 𝓤 H A mem run .pre to) ⊛ ‵ (Own κ d)) (apart (wt .1 .1 .0 .fits) within) $ split ! $
         calls-at ! fm (HeaderAt 𝓤 H A mem run) known to (and-then ! (load ! (from ! (stop !)) (look ! 4 refl)) (and-then ! (load ! (from ! (stop !)) (look ! 2 refl)) (no-more !))) (λ u.
-        use1 W (later (some (λ (r : Opened). ((‵ (flft κ q) ⊛ ‵ ftrue) ⊛ ‵ (S.the-row .own r (u ∷ []))) ⊛ raw (ensured 𝓤 H A header-at.ended (header-at.clauses 𝓤 H A mem run) (κ, tt) (d .board, (d .next, tt)) tt r)))) (id⊢ 𝓤 _) $ await ! tt $ pick ! (λ r.
+        use1 W (later (some (λ (r : HeaderRead). ((‵ (flft κ q) ⊛ ‵ ftrue) ⊛ ‵ (S.the-row .own r (u ∷ []))) ⊛ raw (ensured 𝓤 H A header-at.ended (header-at.clauses 𝓤 H A mem run) (κ, tt) (d .board, (d .next, tt)) tt r)))) (id⊢ 𝓤 _) $ await ! tt $ pick ! (λ r.
         split ! $ move ! (1 ∷ []) $ use1 W (raw (fact 𝓤 (Found r))) (said r) $ heard ! (Found r) (λ e. split ! $ move ! (1 ∷ []) $
         -- [the result; the token; what the struct owns; _3; …; _2; …; _1; …; room for _0; …]
         peeks ! S.the-row (Is S.the-row) (shows 𝓤 H A S.the-row) r (u ∷ []) (λ is.

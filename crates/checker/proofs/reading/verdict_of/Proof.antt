@@ -1,6 +1,3 @@
--- `verdict_of` meets its contract: a walk of its MIR, by hand. The struct is taken apart, and `verdict` is called on the slice, the place and what was opened. All that the proof knows of `verdict` is that it meets its contract.
--- The struct is Copy: what it owns is had twice, one copy is kept whole for the exit, and of the other what the board owns goes to the callee, beside the lifetime's token, which comes back. What was opened is plain: what it owns is made of its relation.
--- Assumes nothing.
 use mathlib.Core.Path.{_≡_, refl}
 use Prim.Native.Nat.{_<_, _^_}
 use mathlib.Core.List.{[], _∷_}
@@ -45,13 +42,13 @@ use Rattle.rules.specs.Answers.{verdictOf, orderOf}
 use Rattle.rules.specs.declared.Checked.{Checked}
 use Rattle.rules.proofs.Checked as R
 use Rattle.rules.proofs.Checked.Laws as R′
-use Rattle.records.specs.Heads.{Opening}
+use Rattle.records.specs.Heads.{HeaderReads}
 use Rattle.checker.specs.declared.reading.Reading.{Reading}
-use Rattle.records.specs.declared.header.Opened.{Opened}
+use Rattle.records.specs.declared.header.HeaderRead.{HeaderRead}
 use Rattle.checker.proofs.reading.Reading as T
 use Rattle.checker.proofs.reading.Reading.Laws as T′
-use Rattle.records.proofs.header.Opened as S
-use Rattle.records.proofs.header.Opened.Laws as S′
+use Rattle.records.proofs.header.HeaderRead as S
+use Rattle.records.proofs.header.HeaderRead.Laws as S′
 use Rattle.checker.proofs.verdict as verdict
 use Rattle.checker.proofs.verdict.Symbol as verdict-def
 use Rattle.checker.proofs.verdict.Symbol.{name as #checker·verdict}
@@ -70,12 +67,12 @@ module _ {M : Type 1} (𝓤 : URA M) (H : Heap 𝓤) (A : Atoms 𝓤) (mem : Mem
   abbrev Verdict : Contract 𝓤
   Verdict = tripleOf 𝓤 H A verdict.signature (verdict.spec 𝓤 H A mem run)
 
-module _ {M : Type 1} (𝓤 : URA M) (H : Heap 𝓤) (A : Atoms 𝓤) (W : Given 𝓤 H A) (mem : Memory → SProp 𝓤) (run : Routine → Fun 𝓤) (κ : Lft) (q : Share) (d : Reading) (o : Opened) (w : Val) (is-o : Is S.the-row o (w ∷ [])) where
+module _ {M : Type 1} (𝓤 : URA M) (H : Heap 𝓤) (A : Atoms 𝓤) (W : Given 𝓤 H A) (mem : Memory → SProp 𝓤) (run : Routine → Fun 𝓤) (κ : Lft) (q : Share) (d : Reading) (o : HeaderRead) (w : Val) (is-o : Is S.the-row o (w ∷ [])) where
   abbrev mach : Val
   mach = T′.lowered d
 
   abbrev Asked : Type 0
-  Asked = Opening (now (d .board)) o × (d .next ≡ headerLength)
+  Asked = HeaderReads (now (d .board)) o × (d .next ≡ headerLength)
 
   abbrev Found : Checked → Type 0
   Found c = (verdictOf c ≡ checkBoard sha256 (now (d .board))) × (c .order ≡ orderOf (checkBoard sha256 (now (d .board))))

@@ -1,17 +1,16 @@
--- `draws_of` meets its contract: after i turns the draws below i are read. Assumes nothing.
 use denote.Ref.{now}
 use Prim.Native.Nat.{ℕ, _*_, _-_, _≤_, _<_}
 use mathlib.Core.Path.{_≡_}
 use native.Mathlib.Omega.{arith}
 use lib.ListN.{length, getD, length-set}
 use borrow.Author.Needs.{needs}
-use Rattle.rules.specs.Bytes.{word}
+use Rattle.rules.specs.Bytes.{number4}
 use Rattle.job_cases.proofs.Filled.{filled}
 use Rattle.job_cases.proofs.buffers.draws_of.Statement.{statement}
 use Rattle.job_cases.proofs.buffers.draws_of.Tie as tie
 
 abbrev Inv-loop : tie.InvT-loop
-Inv-loop bytes draws₀ count i₀ draws i = (i ≤ count) × (32768 ≡ length draws) × ((k : ℕ) → k < i → getD draws k 0 ≡ word bytes (4 * k))
+Inv-loop bytes draws₀ count i₀ draws i = (i ≤ count) × (32768 ≡ length draws) × ((k : ℕ) → k < i → getD draws k 0 ≡ number4 bytes (4 * k))
 
 abbrev μ-loop : tie.MeasureT-loop
 μ-loop bytes draws₀ count i₀ draws i = count - i
@@ -23,7 +22,7 @@ loop-again : tie.Need-loop-again Inv-loop μ-loop
 loop-again c =
     let l = c .before .before .loop in
     let s = now (c .before .before .before .before .before .args .bytes) in
-    (omega arith, simp length-set (l .inv .1), filled (λ k. word s (4 * k)) (l .draws) (l .i) (c .word .result) (omega arith) (c .word .ensures) (l .inv .2))
+    (omega arith, simp length-set (l .inv .1), filled (λ k. number4 s (4 * k)) (l .draws) (l .i) (c .number4 .result) (omega arith) (c .number4 .ensures) (l .inv .2))
 
 returns : tie.Need-returns Inv-loop μ-loop
 returns c = let l = c .before .loop in (l .inv .1, λ i h. l .inv .2 i (omega arith))

@@ -1,4 +1,3 @@
--- `kept` meets its contract: the pattern stands at each place that was passed. Assumes nothing.
 use denote.Ref.{now}
 use Prim.Native.Nat.{ℕ, _-_, _%_, _≤_, _<_}
 use mathlib.Core.Path.{_≡_, _∙_}

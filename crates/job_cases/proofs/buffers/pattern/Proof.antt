@@ -1,4 +1,3 @@
--- `pattern` meets its contract: after i turns the bytes below i are as it says. Assumes nothing.
 use Prim.Native.Nat.{ℕ, _-_, _%_, _≤_, _<_}
 use mathlib.Core.Path.{_≡_}
 use native.Mathlib.Omega.{arith}

@@ -1,4 +1,3 @@
--- `read` meets its contract: each piece stands behind the one before it, within the input. Assumes nothing.
 use denote.Ref.{now}
 use Prim.Native.Nat.{_≤_}
 use mathlib.Core.Path.{sym, _∙_}
@@ -6,7 +5,7 @@ use native.Mathlib.Omega.{arith}
 use lib.ListN.{length}
 use borrow.Author.Needs.{needs}
 use Rattle.testing.proofs.Pieces.{within}
-use Rattle.job_cases.specs.Frames.{Told}
+use Rattle.job_cases.specs.Frames.{FrameReads}
 use Rattle.job_cases.proofs.frame.read.Statement.{statement}
 use Rattle.job_cases.proofs.frame.read.Tie as tie
 
@@ -15,7 +14,7 @@ name : (c : tie.After-known-told) → c .before .name .given .0 .1 .0 ≤ length
 name c = within (now (c .before .before .before .before .before .args .s)) _ _ _ (sym (c .before .before .before .piece-at .ensures) ∙ c .before .name .given .1) .2
 
 returns-6 : tie.Need-returns-6
-unfolding Told
+unfolding FrameReads
 returns-6 c =
     let s = now (c .before .before .before .before .before .before .before .before .before .before .before .before .before .before .before .before .before .before .args .s) in
     let a = within s _ _ _ (sym (c .before .before .before .before .before .before .before .before .before .before .before .before .before .before .before .before .piece-at .ensures) ∙ c .before .before .before .before .before .before .before .before .before .before .before .before .before .before .name .given .1) in
@@ -25,7 +24,7 @@ returns-6 c =
     record { named = omega arith; labelled = omega arith; ranked = omega arith; drawn = omega arith; ended = omega arith }
 
 pub read-spec : {M : Type 1} → statement M
-unfolding Told
+unfolding FrameReads
 read-spec =
     tie.close
     (tie.spec (λ c κs. search needs) (λ c. search needs) (λ c. search needs) (λ c. tt) (λ c. omega (arith, name c)) (λ c. tt)

@@ -2,20 +2,20 @@ use Prim.Native.Nat.{_-_, _≤_}
 use mathlib.Core.Path.{_≡_, refl, _∙_}
 use native.Mathlib.Omega.{arith}
 use lib.ListN.{length, take}
-use Rattle.rules.specs.Answers.{padded}
+use Rattle.rules.specs.Answers.{withZeros}
 use Rattle.plain.proofs.Counted.{first-more, first-listed, first-list}
 use borrow.Author.Needs.{needs}
 use Rattle.plain.proofs.rankings.first_of.Statement.{statement}
 use Rattle.plain.proofs.rankings.first_of.Tie as tie
 
 abbrev Inv-loop : tie.InvT-loop
-Inv-loop outs order first₀ i₀ first i = (i ≤ outs) × (first ≡ padded (take i order))
+Inv-loop outs order first₀ i₀ first i = (i ≤ outs) × (first ≡ withZeros (take i order))
 
 abbrev μ-loop : tie.MeasureT-loop
 μ-loop outs order first₀ i₀ first i = outs - i
 
 loop-holds : tie.Need-loop-holds Inv-loop μ-loop
-unfolding padded
+unfolding withZeros
 loop-holds c = (omega arith, refl)
 
 loop-again : tie.Need-loop-again Inv-loop μ-loop
@@ -29,7 +29,7 @@ returns c =
     let l = c .before .loop in
     let s = c .before .before in
     let e : l .i ≡ s .args .outs = omega arith in
-    let w : l .first ≡ padded (take (s .args .outs) (s .args .t1)) = l .inv .1 ∙ rw e in
+    let w : l .first ≡ withZeros (take (s .args .outs) (s .args .t1)) = l .inv .1 ∙ rw e in
     let long : length (s .args .t1) ≡ 8 = omega (arith, s .good) in
     (refl, first-listed (s .args .t1) (l .first) (s .args .outs) (omega arith) long w, first-list (s .args .t1) (l .first) (s .args .outs) (omega arith) long w)
 

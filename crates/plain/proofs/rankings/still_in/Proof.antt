@@ -7,8 +7,8 @@ use lib.ListN.{length, getD, length-append}
 use denote.Ref.{now}
 use Rattle.rules.specs.Bytes.{part}
 use Rattle.rules.specs.Count.{member}
-use Rattle.jobs.specs.Job.{standing}
-use Rattle.rules.specs.Answers.{padded}
+use Rattle.jobs.specs.Job.{remaining}
+use Rattle.rules.specs.Answers.{withZeros}
 use Rattle.count.specs.State.{listOf}
 use Rattle.plain.proofs.Lists.{standing-out, standing-in, pad-more, part-few}
 use borrow.Author.Needs.{needs}
@@ -17,39 +17,36 @@ use Rattle.plain.proofs.rankings.still_in.Tie as tie
 
 abbrev Inv-loop : tie.InvT-loop
 Inv-loop rankings at n gone list₀ found₀ i₀ list found i =
-    (i ≤ n) × (list ≡ padded (standing (listOf gone) (part rankings at i))) × (found ≡ length (standing (listOf gone) (part rankings at i)))
+    (i ≤ n) × (list ≡ withZeros (remaining (listOf gone) (part rankings at i))) × (found ≡ length (remaining (listOf gone) (part rankings at i)))
 
 abbrev μ-loop : tie.MeasureT-loop
 μ-loop rankings at n gone list₀ found₀ i₀ list found i = n - i
 
-abbrev start-from-wide : tie.After-wide Inv-loop μ-loop → tie.Start Inv-loop μ-loop
-start-from-wide c = c .before .before .before .before .before
-
 loop-holds : tie.Need-loop-holds Inv-loop μ-loop
-unfolding padded standing
+unfolding withZeros remaining
 loop-holds c = (omega arith, refl, refl)
 
 loop-again : tie.Need-loop-again Inv-loop μ-loop
 loop-again c =
     let l = c .before .before .before .before .before .loop in
-    let f = (start-from-wide (c .before .before)) .args in
+    let f = c .before .before .before .before .before .before .before .args in
     let gone = listOf (f .gone) in
     let s = now (f .rankings) in
     let x = getD s (f .at + l .i) 0 in
-    let h : f .at + l .i < length s = omega (arith, (start-from-wide (c .before .before)) .pre) in
+    let h : f .at + l .i < length s = omega (arith, c .before .before .before .before .before .before .before .pre) in
     let told : member x gone ≡ c .before .is-out .result = sym (c .before .is-out .ensures ∙ rw (c .before .before .wide .ensures)) in
     let few = part-few gone s (f .at) (l .i) in
-    let st = standing gone (part s (f .at) (l .i)) in
+    let st = remaining gone (part s (f .at) (l .i)) in
     ⊎-elim
     (λ w.
     let e = told ∙ not-true _ (w .0 .taken) in (
       omega arith,
-      w .1 ∙ rw (l .inv .1, l .inv .2) (pad-more st (length st) x refl (omega (arith, (start-from-wide (c .before .before)) .pre)) ∙ ap padded (standing-in gone s (f .at) (l .i) h e)),
+      w .1 ∙ rw (l .inv .1, l .inv .2) (pad-more st (length st) x refl (omega (arith, c .before .before .before .before .before .before .before .pre)) ∙ ap withZeros (standing-in gone s (f .at) (l .i) h e)),
       w .2 ∙ rw (← (standing-in gone s (f .at) (l .i) h e)) (simp length-append (omega (arith, l .inv .2))),
     ))
     (λ w.
     let e = told ∙ not-false _ (w .0 .left) in
-    (omega arith, w .1 ∙ l .inv .1 ∙ ap padded (standing-out gone s (f .at) (l .i) h e), w .2 ∙ l .inv .2 ∙ ap length (standing-out gone s (f .at) (l .i) h e)))
+    (omega arith, w .1 ∙ l .inv .1 ∙ ap withZeros (standing-out gone s (f .at) (l .i) h e), w .2 ∙ l .inv .2 ∙ ap length (standing-out gone s (f .at) (l .i) h e)))
     (c .if1 .came)
 
 returns : tie.Need-returns Inv-loop μ-loop
@@ -62,4 +59,7 @@ returns c =
 pub still-in-spec : {M : Type 1} → statement M
 still-in-spec =
     tie.close
-    (tie.spec Inv-loop μ-loop loop-holds (λ c. search needs) (λ c. search needs) (λ c κs. search needs) (λ c κs. search needs) (λ c. omega (arith, part-few (listOf ((start-from-wide (c .before .before)) .args .gone)) (now ((start-from-wide (c .before .before)) .args .rankings)) ((start-from-wide (c .before .before)) .args .at) (c .before .before .before .before .before .loop .i), c .before .before .before .before .before .loop .inv .2, (start-from-wide (c .before .before)) .pre)) (λ c. omega (arith, part-few (listOf ((start-from-wide (c .before .before)) .args .gone)) (now ((start-from-wide (c .before .before)) .args .rankings)) ((start-from-wide (c .before .before)) .args .at) (c .before .before .before .before .before .loop .i), c .before .before .before .before .before .loop .inv .2, (start-from-wide (c .before .before)) .pre)) (λ c. search needs) (λ c. search needs) loop-again returns)
+    (tie.spec Inv-loop μ-loop loop-holds (λ c. search needs) (λ c. search needs) (λ c κs. search needs) (λ c κs. search needs)
+    (λ c. omega (arith, part-few (listOf (c .before .before .before .before .before .before .before .args .gone)) (now (c .before .before .before .before .before .before .before .args .rankings)) (c .before .before .before .before .before .before .before .args .at) (c .before .before .before .before .before .loop .i), c .before .before .before .before .before .loop .inv .2, c .before .before .before .before .before .before .before .pre))
+    (λ c. omega (arith, part-few (listOf (c .before .before .before .before .before .before .before .args .gone)) (now (c .before .before .before .before .before .before .before .args .rankings)) (c .before .before .before .before .before .before .before .args .at) (c .before .before .before .before .before .loop .i), c .before .before .before .before .before .loop .inv .2, c .before .before .before .before .before .before .before .pre))
+    (λ c. search needs) (λ c. search needs) loop-again returns)

@@ -55,4 +55,11 @@ loop-again c =
 pub count-spec : {M : Type 1} → statement M
 count-spec =
     tie.close
-    (tie.spec Inv-loop μ-loop (λ c κs. search needs) loop-holds (λ c κs. let s = c .before .before .before .before in (omega (arith, s .pre), omega (arith, s .pre), omega (arith, s .pre), c .before .loop .inv .0 .listed)) (λ c. omega (arith, c .before .before .before .before .before .pre)) (λ c κs. let s = c .before .before .before .before .before in (c .before .before .loop .inv .0, omega (arith, s .pre), omega (arith, s .pre))) (λ c κs. let s = (start-from-tally (c .before .before)) in let l = c .before .before .before .before .loop in (l .inv .0, omega (arith, l .inv .1, s .pre), omega (arith, s .pre))) returns (λ c κs. let s = (start-from-tally (c .before .before)) in (c .before .before .before .before .loop .inv .0, omega (arith, s .pre))) (λ c κs. let s = (start-from-tally (c .before .before .before)) in let l = c .before .before .before .before .before .loop in (l .inv .0, omega (arith, l .inv .1, s .pre), omega (arith, c .leaves .ensures .1, s .pre))) (λ c. omega (arith, c .next .ensures .0, c .before .before .before .before .before .before .loop .inv .1)) loop-again)
+    (tie.spec Inv-loop μ-loop (λ c κs. search needs) loop-holds
+    (λ c κs. let s = c .before .before .before .before in (omega (arith, s .pre), omega (arith, s .pre), omega (arith, s .pre), c .before .loop .inv .0 .listed))
+    (λ c. omega (arith, c .before .before .before .before .before .pre))
+    (λ c κs. let s = c .before .before .before .before .before in (c .before .before .loop .inv .0, omega (arith, s .pre), omega (arith, s .pre)))
+    (λ c κs. let s = (start-from-tally (c .before .before)) in let l = c .before .before .before .before .loop in (l .inv .0, omega (arith, l .inv .1, s .pre), omega (arith, s .pre)))
+    returns (λ c κs. let s = (start-from-tally (c .before .before)) in (c .before .before .before .before .loop .inv .0, omega (arith, s .pre)))
+    (λ c κs. let s = (start-from-tally (c .before .before .before)) in let l = c .before .before .before .before .before .loop in (l .inv .0, omega (arith, l .inv .1, s .pre), omega (arith, c .leaves .ensures .1, s .pre)))
+    (λ c. omega (arith, c .next .ensures .0, c .before .before .before .before .before .before .loop .inv .1)) loop-again)

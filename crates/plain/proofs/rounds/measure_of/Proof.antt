@@ -47,5 +47,5 @@ pub measure-of-spec : {M : Type 1} → statement M
 measure-of-spec =
     tie.close
     (tie.spec Inv-loop μ-loop loop-holds (λ c κs. search needs) (λ c. omega (arith, few c)) (λ c. omega (arith, few c)) (λ c κs. search needs)
-    (λ c. omega (arith, short c)) (λ c κs. search needs) (λ c. omega (arith, short (c .before), c .sheet-length .ensures .1)) (λ c. omega (arith, short (c .before), c .sheet-length .ensures .1))
-    (λ c. omega arith) (λ c. omega arith) loop-again returns)
+    (λ c. omega (arith, short c)) (λ c κs. search needs) (λ c. omega (arith, short (c .before), c .sheet-length .ensures .1))
+    (λ c. omega (arith, short (c .before), c .sheet-length .ensures .1)) (λ c. omega arith) (λ c. omega arith) loop-again returns)

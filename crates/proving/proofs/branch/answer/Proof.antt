@@ -38,19 +38,21 @@ loop-again : tie.Need-loop-again Inv-loop μ-loop
 loop-again c =
     let l = c .before .before .before .before .before .before .before .before .loop in
     let f = (start-from-slice-known3 c) .args in
-    let p = c .before .before .put-word2 .ensures in (
+    let p = c .before .before .put-number42 .ensures in (
       omega arith,
       search needs,
-      λ o n h. answer-more (f .e .0) (answers (f .q) (f .e .0) (f .t5) (now (f .draws)) (f .at)) o (l .i) _ (l .out) _ refl (omega (arith, n, c .before .before .before .before .before .before .before .before .before .before .before .put-word, (start-from-slice-known3 c))) (l .inv .2 o n h) (p ∙ rw (c .before .before .before .before .response .ensures)),
+      λ o n h. answer-more (f .e .0) (answers (f .q) (f .e .0) (f .t5) (now (f .draws)) (f .at)) o (l .i) _ (l .out) _ refl (omega (arith, n, c .before .before .before .before .before .before .before .before .before .before .before .put-number4, (start-from-slice-known3 c))) (l .inv .2 o n h) (p ∙ rw (c .before .before .before .before .response .ensures)),
     )
 
 returns : tie.Need-returns Inv-loop μ-loop
 returns c =
     let l = c .before .loop in
     let e : l .i ≡ (start-from-out (c .before .before .before)) .args .statements = omega arith in
-    rw (← e) (l .inv .2 _ (omega arith) (c .before .before .before .before .put-word .ensures))
+    rw (← e) (l .inv .2 _ (omega arith) (c .before .before .before .before .put-number4 .ensures))
 
 pub answer-spec : {M : Type 1} → statement M
 answer-spec =
     tie.close
-    (tie.spec Inv-loop μ-loop (λ c κs. search needs) loop-holds (λ c. search needs) (λ c. search needs) (λ c. search needs) (λ c. search needs) (λ c. search needs) (λ c. search needs) (λ c. search needs) (λ c κs. search needs) (λ c. search needs) (λ c. search needs) (λ c. search needs) (λ c κs. search needs) (λ c. search needs) (λ c. search needs) loop-again (λ c. search needs) returns)
+    (tie.spec Inv-loop μ-loop (λ c κs. search needs) loop-holds (λ c. search needs) (λ c. search needs) (λ c. search needs) (λ c. search needs)
+    (λ c. search needs) (λ c. search needs) (λ c. search needs) (λ c κs. search needs) (λ c. search needs) (λ c. search needs) (λ c. search needs)
+    (λ c κs. search needs) (λ c. search needs) (λ c. search needs) loop-again (λ c. search needs) returns)

@@ -4,7 +4,7 @@ use mathlib.Core.List.{List, _++_}
 use native.Mathlib.Omega.{arith}
 use lib.ListN.{length, getD}
 use denote.Ref.{now}
-use Rattle.numbers.specs.Below.{blocks}
+use Rattle.numbers.specs.Below.{concatBelow}
 use Rattle.group.specs.Elements.{parametersOf}
 use Rattle.rules.specs.Bytes.{bytes4}
 use Rattle.sha256.specs.Feed.{Fed}
@@ -22,7 +22,7 @@ abbrev Inv-loop : tie.InvT-loop
 Inv-loop out₀ g page inverses n claim l statements draws at group e k₀ i₀ out k i =
     (i ≤ statements) × (length out ≡ length out₀)
     × ((o : List ℕ) → out₀ ≡ written (bytes4 e) o → out ≡ written (branchBytes e i (falseTs (parametersOf (g .group)) (claimOf page (parametersOf (g .group)) n claim l) draws at) (falseRs draws at)) o)
-    × ((m : List ℕ) → Fed k₀ m → Fed k (m ++ blocks i (falseTs (parametersOf (g .group)) (claimOf page (parametersOf (g .group)) n claim l) draws at)))
+    × ((m : List ℕ) → Fed k₀ m → Fed k (m ++ concatBelow i (falseTs (parametersOf (g .group)) (claimOf page (parametersOf (g .group)) n claim l) draws at)))
 
 abbrev μ-loop : tie.MeasureT-loop
 μ-loop out₀ g page inverses n claim l statements draws at group e k₀ i₀ out k i = statements - i
@@ -57,7 +57,7 @@ returns : tie.Need-returns Inv-loop μ-loop
 returns c =
     let l = c .before .loop in
     let e : l .i ≡ (start-from-slice-known2 (c .before .before)) .args .statements = omega arith in
-    rw (← e) (record { wrote = l .inv .2 _ (c .before .before .before .before .put-word .ensures); fed = l .inv .3 })
+    rw (← e) (record { wrote = l .inv .2 _ (c .before .before .before .before .put-number4 .ensures); fed = l .inv .3 })
 
 claimed-requires : tie.Need-claimed-requires Inv-loop μ-loop
 claimed-requires c κs = let s = (start-from-slice-known2 (c .before .before)) in (s .pre .0 .0, s .pre .1 .1 (c .before .loop .i) (omega arith))
@@ -65,4 +65,11 @@ claimed-requires c κs = let s = (start-from-slice-known2 (c .before .before)) i
 pub false-branch-spec : {M : Type 1} → statement M
 false-branch-spec =
     tie.close
-    (tie.spec Inv-loop μ-loop (λ c. search needs) (λ c. search needs) (λ c κs. search needs) loop-holds claimed-requires (λ c. search needs) (λ c. search needs) (λ c. omega (arith, (start-from-slice-known2 (c .before .before .before)))) (λ c. omega (arith, (start-from-slice-known2 (c .before .before .before)))) (λ c. omega (arith, (start-from-slice-known2 (c .before .before .before)))) (λ c. omega (arith, (start-from-slice-known2 (c .before .before .before .before)))) (λ c. search needs) (λ c. search needs) (λ c. search needs) (λ c κs. omega (arith, (start-from-put-false-arg c))) (λ c. omega (arith, (start-from-put-false-arg (c .before .before .before)) .pre, c .before .before .before .before .before .before .loop-test .taken)) (λ c. search needs) loop-again (λ c. search needs) returns)
+    (tie.spec Inv-loop μ-loop (λ c. search needs) (λ c. search needs) (λ c κs. search needs) loop-holds claimed-requires (λ c. search needs)
+    (λ c. search needs) (λ c. omega (arith, (start-from-slice-known2 (c .before .before .before))))
+    (λ c. omega (arith, (start-from-slice-known2 (c .before .before .before))))
+    (λ c. omega (arith, (start-from-slice-known2 (c .before .before .before))))
+    (λ c. omega (arith, (start-from-slice-known2 (c .before .before .before .before)))) (λ c. search needs) (λ c. search needs) (λ c. search needs)
+    (λ c κs. omega (arith, (start-from-put-false-arg c)))
+    (λ c. omega (arith, (start-from-put-false-arg (c .before .before .before)) .pre, c .before .before .before .before .before .before .loop-test .taken))
+    (λ c. search needs) loop-again (λ c. search needs) returns)

@@ -4,7 +4,7 @@ use mathlib.Core.List.{List, _++_}
 use native.Mathlib.Omega.{arith}
 use lib.ListN.{length}
 use denote.Ref.{now}
-use Rattle.numbers.specs.Below.{blocks}
+use Rattle.numbers.specs.Below.{concatBelow}
 use Rattle.rules.specs.Bytes.{bytes4}
 use Rattle.sha256.specs.Feed.{Fed}
 use Rattle.output.specs.Written.{written}
@@ -20,7 +20,7 @@ abbrev Inv-loop : tie.InvT-loop
 Inv-loop out₀ g statements draws at k₀ i₀ out k i =
     (i ≤ statements) × (length out ≡ length out₀)
     × ((o : List ℕ) → out₀ ≡ written (bytes4 0) o → out ≡ written (branchBytes 0 i (trueTs (parametersOf g) draws at) (trueRs draws at)) o)
-    × ((m : List ℕ) → Fed k₀ m → Fed k (m ++ blocks i (trueTs (parametersOf g) draws at)))
+    × ((m : List ℕ) → Fed k₀ m → Fed k (m ++ concatBelow i (trueTs (parametersOf g) draws at)))
 
 abbrev μ-loop : tie.MeasureT-loop
 μ-loop out₀ g statements draws at k₀ i₀ out k i = statements - i
@@ -45,7 +45,7 @@ returns : tie.Need-returns Inv-loop μ-loop
 returns c =
     let l = c .before .loop in
     let e : l .i ≡ c .before .before .before .before .before .before .before .before .args .statements = omega arith in
-    rw (← e) (record { wrote = l .inv .2 _ (c .before .before .before .before .put-word .ensures); fed = l .inv .3 })
+    rw (← e) (record { wrote = l .inv .2 _ (c .before .before .before .before .put-number4 .ensures); fed = l .inv .3 })
 
 pub true-branch-spec : {M : Type 1} → statement M
 true-branch-spec =

@@ -14,13 +14,13 @@ slice-aggregate-update c =
     let w = c .before .before in
     let f = w .before .before .before .before .before .before .before .before .before .before .before .before .args in
     taken-count (bytes4 (f .t1 .0) ++ bytes4 (f .t2 .0)) (bytes4 (f .r .0)) (now (f .out)) _ 8 refl
-    (more _ _ _ _ _ _ refl (more _ _ _ _ _ _ refl (w .before .before .before .before .before .before .before .before .before .put-word .ensures) (w .before .before .before .before .before .put-word2 .ensures)) (w .before .put-word3 .ensures))
+    (more _ _ _ _ _ _ refl (more _ _ _ _ _ _ refl (w .before .before .before .before .before .before .before .before .before .put-number4 .ensures) (w .before .before .before .before .before .put-number42 .ensures)) (w .before .put-number43 .ensures))
 
 returns : tie.Need-returns
 returns c =
     let w = c .before .before .before in
     let f = w .before .before .before .before .before .before .before .before .before .before .before .before .args in
-    let e = more _ _ _ _ _ _ refl (more _ _ _ _ _ _ refl (w .before .before .before .before .before .before .before .before .before .put-word .ensures) (w .before .before .before .before .before .put-word2 .ensures)) (w .before .put-word3 .ensures) in
+    let e = more _ _ _ _ _ _ refl (more _ _ _ _ _ _ refl (w .before .before .before .before .before .before .before .before .before .put-number4 .ensures) (w .before .before .before .before .before .put-number42 .ensures)) (w .before .put-number43 .ensures) in
     record { wrote = e; fed = λ m h. subst (λ (x : List ℕ). Fed (c .update .result) (m ++ x)) (taken (bytes4 (f .t1 .0) ++ bytes4 (f .t2 .0)) (bytes4 (f .r .0)) (now (f .out)) _ 8 refl e) (c .update .ensures m h) }
 
 pub put-statement-spec : {M : Type 1} → statement M

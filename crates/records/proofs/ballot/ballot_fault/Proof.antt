@@ -5,7 +5,7 @@ use native.Mathlib.Omega.{arith}
 use borrow.Author.Needs.{needs}
 use borrow.Author.Tests.{not-true, not-false}
 use Rattle.sha256.specs.Message.{sha256}
-use Rattle.rules.specs.Bytes.{half}
+use Rattle.rules.specs.Bytes.{number2}
 use Rattle.rules.specs.Records.{BA, ballotLength}
 use Rattle.rules.specs.Check.{recordFault}
 use Rattle.rules.proofs.Sizes.{cells}
@@ -21,7 +21,7 @@ use Rattle.records.proofs.ballot.ballot_fault.Tie as tie
 -- the frame is sound
 framed : (c : tie.After-enum-told) →
     let a = c .before .before .before .before .before .before .args in Framed (now (a .board)) (a .at) (ballotLength (a .h .n)) BA
-    (half (now (a .board)) (a .at + 2)) (a .k + 1) Sound
+    (number2 (now (a .board)) (a .at + 2)) (a .k + 1) Sound
 framed c = rw (c .before .before .before .ballot-length .ensures .0, c .enum-told .given .1) at (c .before .before .ballot-frame .ensures)
 
 few : (c : tie.After-enum-told) → let a = c .before .before .before .before .before .before .args in a .h .n * a .h .n ≤ 64
@@ -29,7 +29,7 @@ few c = cells (c .before .before .before .before .before .before .args .h .n) (c
 
 table : (c : tie.After-group) (x : ℕ) →
     let a = c .before .before .args in
-    FiveTests (now (a .board)) (a .at) (ballotLength (a .h .n)) BA (half (now (a .board)) (a .at + 2)) (a .k + 1)
+    FiveTests (now (a .board)) (a .at) (ballotLength (a .h .n)) BA (number2 (now (a .board)) (a .at + 2)) (a .k + 1)
     (ballotFieldsAt (now (a .board)) (a .h .n) (a .h .setup .group .p) (a .h .setup .group .q) (a .at))
     (ballotProofsAt (now (a .board)) (a .h) (a .at))
     (recordFault sha256 (now (a .board)) (headOf (now (a .board)) (a .h)) x 0 (a .k))

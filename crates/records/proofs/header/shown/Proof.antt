@@ -5,7 +5,7 @@ use Rattle.records.proofs.header.shown.Tie as tie
 
 returns : tie.Need-returns
 unfolding header
-returns c = rw (c .before .before .before .word .ensures, c .before .before .word2 .ensures, c .before .as-element .ensures, c .as-element2 .ensures)
+returns c = rw (c .before .before .before .number4 .ensures, c .before .before .number42 .ensures, c .before .as-element .ensures, c .as-element2 .ensures)
 
 pub shown-spec : {M : Type 1} → statement M
 shown-spec = tie.close (tie.spec (λ c κs. search needs) (λ c κs. search needs) (λ c κs. search needs) (λ c κs. search needs) returns)

@@ -8,8 +8,8 @@ use lib.ListN.{length, take, length-set}
 use borrow.Author.Needs.{needs}
 use Rattle.numbers.specs.Below.{allBelow}
 use Rattle.numbers.proofs.Tests.{all-none, all-more, all-end}
-use Rattle.fields.proofs.Told.{count-value, count-refused, exponent-value, exponent-refused}
-use Rattle.rules.specs.Bytes.{half, word}
+use Rattle.fields.proofs.Values.{count-value, count-refused, exponent-value, exponent-refused}
+use Rattle.rules.specs.Bytes.{number2, number4}
 use Rattle.rules.specs.Count.{table}
 use Rattle.records.specs.Faults.{Counted, exponentOf}
 use Rattle.records.specs.Parts.{countGood}
@@ -21,7 +21,7 @@ use Rattle.records.proofs.sheet.sheet_fields.Tie as tie
 abbrev Inv-loop : tie.InvT-loop
 Inv-loop board m at n most q counts₀ s₀ place₀ i₀ counts s place i =
     (i ≤ n) × (place ≡ at + 4 + 6 * i) × (length counts ≡ 8) × (length s ≡ 8) × (allBelow i (countGood board most q at) ≡ true)
-    × (take i counts ≡ table i (λ i. half board (at + 4 + 6 * i))) × ((j : ℕ) → j < i → exponentOf s j ≡ word board (at + 6 + 6 * j))
+    × (take i counts ≡ table i (λ i. number2 board (at + 4 + 6 * i))) × ((j : ℕ) → j < i → exponentOf s j ≡ number4 board (at + 6 + 6 * j))
 
 abbrev μ-loop : tie.MeasureT-loop
 μ-loop board m at n most q counts₀ s₀ place₀ i₀ counts s place i = n - i
@@ -50,8 +50,8 @@ counted : (c : tie.After-known-told Inv-loop μ-loop) →
     let a = (start-from-count (c .before .before .before)) .args in
     let l = c .before .before .before .before .before .loop in
     let v = c .before .count2 .given .0 in
-    (leb (half (now (a .board)) (a .at + 4 + 6 * l .i)) (a .h .k) ≡ true) × (v .1 .0 ≡ a .at + 6 + 6 * l .i)
-    × (v .0 ≡ half (now (a .board)) (a .at + 4 + 6 * l .i))
+    (leb (number2 (now (a .board)) (a .at + 4 + 6 * l .i)) (a .h .k) ≡ true) × (v .1 .0 ≡ a .at + 6 + 6 * l .i)
+    × (v .0 ≡ number2 (now (a .board)) (a .at + 4 + 6 * l .i))
 counted c =
     let a = (start-from-count (c .before .before .before)) .args in
     let l = c .before .before .before .before .before .loop in
@@ -62,8 +62,8 @@ raised : (c : tie.After-known-told2 Inv-loop μ-loop) →
     let a = (start-from-match2-keys1 (c .before .before)) .args in
     let l = (loop-from-known-told (c .before .before .before .before)) .loop in
     let v = c .before .x .given .0 in
-    (ltb (word (now (a .board)) (a .at + 6 + 6 * l .i)) (a .h .setup .group .q) ≡ true) × (v .1 .0 ≡ a .at + 4 + 6 * (l .i + 1))
-    × (v .0 .0 ≡ word (now (a .board)) (a .at + 6 + 6 * l .i))
+    (ltb (number4 (now (a .board)) (a .at + 6 + 6 * l .i)) (a .h .setup .group .q) ≡ true) × (v .1 .0 ≡ a .at + 4 + 6 * (l .i + 1))
+    × (v .0 .0 ≡ number4 (now (a .board)) (a .at + 6 + 6 * l .i))
 raised c =
     let a = (start-from-match2-keys1 (c .before .before)) .args in
     let e = counted (c .before .before .before .before) .1 in
@@ -100,8 +100,8 @@ loop-again c =
       simp length-set (l .inv .2),
       simp length-set (l .inv .3),
       all-more _ _ (l .inv .4) (rw (k .0) (x .0)),
-      table-more (λ i. half (now (a .board)) (a .at + 4 + 6 * i)) (l .counts) (l .i) _ (omega (arith, (loop-from-exponent (c .before .before .before)) .loop-test .taken, (start-from-match2-keys1 (c .before .before)) .pre .0 .high)) (l .inv .5) (k .2),
-      exponents-more (λ i. word (now (a .board)) (a .at + 6 + 6 * i)) (l .s) (l .i) _ (omega (arith, (loop-from-exponent (c .before .before .before)) .loop-test .taken, (start-from-match2-keys1 (c .before .before)) .pre .0 .high)) (l .inv .6) (x .2),
+      table-more (λ i. number2 (now (a .board)) (a .at + 4 + 6 * i)) (l .counts) (l .i) _ (omega (arith, (loop-from-exponent (c .before .before .before)) .loop-test .taken, (start-from-match2-keys1 (c .before .before)) .pre .0 .high)) (l .inv .5) (k .2),
+      exponents-more (λ i. number4 (now (a .board)) (a .at + 6 + 6 * i)) (l .s) (l .i) _ (omega (arith, (loop-from-exponent (c .before .before .before)) .loop-test .taken, (start-from-match2-keys1 (c .before .before)) .pre .0 .high)) (l .inv .6) (x .2),
     )
 
 returns-3 : tie.Need-returns-3 Inv-loop μ-loop
@@ -119,4 +119,12 @@ returns-3 c =
 pub sheet-fields-spec : {M : Type 1} → statement M
 sheet-fields-spec =
     tie.close
-    (tie.spec Inv-loop μ-loop (λ c. search needs) (λ c. omega (arith, c .before .before .good)) loop-holds (λ c κs. omega arith) (λ c. search needs) (λ c. search needs) returns (λ c κs. omega (arith, counted c .1)) (λ c. search needs) (λ c. search needs) returns-2 (λ c. omega (arith, (loop-from-exponent (c .before .before .before)) .loop-test .taken, (start-from-match2-keys1 (c .before .before)) .pre .0 .high)) (λ c. omega (arith, (loop-from-exponent (c .before .before .before)) .loop-test .taken, (start-from-match2-keys1 (c .before .before)) .pre .0 .high)) (λ c. omega (arith, (loop-from-exponent (c .before .before .before)) .loop-test .taken, (start-from-match2-keys1 (c .before .before)) .pre .0 .high)) (λ c. omega (arith, (loop-from-exponent (c .before .before .before)) .loop-test .taken, (start-from-match2-keys1 (c .before .before)) .pre .0 .high)) (λ c. omega (arith, (loop-from-exponent (c .before .before .before)) .loop-test .taken, (start-from-match2-keys1 (c .before .before)) .pre .0 .high)) (λ c. omega (arith, (loop-from-exponent (c .before .before .before)) .loop-test .taken, (start-from-match2-keys1 (c .before .before)) .pre .0 .high)) loop-again returns-3)
+    (tie.spec Inv-loop μ-loop (λ c. search needs) (λ c. omega (arith, c .before .before .good)) loop-holds (λ c κs. omega arith) (λ c. search needs)
+    (λ c. search needs) returns (λ c κs. omega (arith, counted c .1)) (λ c. search needs) (λ c. search needs) returns-2
+    (λ c. omega (arith, (loop-from-exponent (c .before .before .before)) .loop-test .taken, (start-from-match2-keys1 (c .before .before)) .pre .0 .high))
+    (λ c. omega (arith, (loop-from-exponent (c .before .before .before)) .loop-test .taken, (start-from-match2-keys1 (c .before .before)) .pre .0 .high))
+    (λ c. omega (arith, (loop-from-exponent (c .before .before .before)) .loop-test .taken, (start-from-match2-keys1 (c .before .before)) .pre .0 .high))
+    (λ c. omega (arith, (loop-from-exponent (c .before .before .before)) .loop-test .taken, (start-from-match2-keys1 (c .before .before)) .pre .0 .high))
+    (λ c. omega (arith, (loop-from-exponent (c .before .before .before)) .loop-test .taken, (start-from-match2-keys1 (c .before .before)) .pre .0 .high))
+    (λ c. omega (arith, (loop-from-exponent (c .before .before .before)) .loop-test .taken, (start-from-match2-keys1 (c .before .before)) .pre .0 .high))
+    loop-again returns-3)

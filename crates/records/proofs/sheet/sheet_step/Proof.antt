@@ -75,8 +75,8 @@ returns-2 c =
 tallies-requires : tie.Need-tallies-requires
 unfolding Framed recordAt
 tallies-requires c κs =
-    let a = (start-from-sheet-fields (c .before .before .before .before)) .args in
-    let pre = (start-from-sheet-fields (c .before .before .before .before)) .pre in
+    let a = c .before .before .before .before .before .before .before .before .before .args in
+    let pre = c .before .before .before .before .before .before .before .before .before .pre in
     let x = holds-pairs (a .h .n) (a .m) in
     let y : 1 * a .h .n ≤ (a .h .n - a .m) * a .h .n = mul-le-mul-right (a .h .n) (omega arith) in
     let e : a .first + a .size * a .h .k ≡ a .at = rw (pre .1 .0, pre .1 .1, pre .1 .2) (omega arith) in
@@ -105,4 +105,6 @@ returns-4 c =
 pub sheet-step-spec : {M : Type 1} → statement M
 sheet-step-spec =
     tie.close
-    (tie.spec (λ c. search needs) (λ c κs. search needs) (λ c. search needs) (λ c κs. search needs) returns (λ c. search needs) sheet-fields-requires (λ c. search needs) (λ c κs. search needs) returns-2 (λ c. search needs) tallies-requires (λ c κs. search needs) returns-3 (λ c. search needs) byte-requires (λ c κs. search needs) returns-4)
+    (tie.spec (λ c. search needs) (λ c κs. search needs) (λ c. search needs) (λ c κs. search needs) returns (λ c. search needs) sheet-fields-requires
+    (λ c. search needs) (λ c κs. search needs) returns-2 (λ c. search needs) tallies-requires (λ c κs. search needs) returns-3 (λ c. search needs)
+    byte-requires (λ c κs. search needs) returns-4)

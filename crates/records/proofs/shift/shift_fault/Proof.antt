@@ -5,7 +5,7 @@ use native.Mathlib.Omega.{arith}
 use borrow.Author.Needs.{needs}
 use borrow.Author.Tests.{not-true, not-false}
 use Rattle.sha256.specs.Message.{sha256}
-use Rattle.rules.specs.Bytes.{half}
+use Rattle.rules.specs.Bytes.{number2}
 use Rattle.rules.specs.Records.{SH, shiftLength}
 use Rattle.rules.specs.Check.{recordFault}
 use Rattle.rules.proofs.Sizes.{few-pairs}
@@ -21,7 +21,7 @@ use Rattle.records.proofs.shift.shift_fault.Tie as tie
 -- the frame is sound
 framed : (c : tie.After-enum-told) →
     let a = c .before .before .before .before .before .before .args in Framed (now (a .board)) (a .at) (shiftLength (a .h .n) (a .h .n - a .m - 1)) SH
-    (half (now (a .board)) (a .at + 2)) (a .k + 1) Sound
+    (number2 (now (a .board)) (a .at + 2)) (a .k + 1) Sound
 framed c = rw (c .before .before .before .shift-length .ensures .0, c .enum-told .given .1) at (c .before .before .ballot-frame .ensures)
 
 few : (c : tie.After-enum-told) → let a = c .before .before .before .before .before .before .args in (a .h .n - a .m - 1) * a .h .n ≤ 64
@@ -33,7 +33,7 @@ few c =
 table : (c : tie.After-group) →
     let a = c .before .before .args in
     let rows = a .h .n - a .m - 1 in
-    FiveTests (now (a .board)) (a .at) (shiftLength (a .h .n) rows) SH (half (now (a .board)) (a .at + 2)) (a .k + 1)
+    FiveTests (now (a .board)) (a .at) (shiftLength (a .h .n) rows) SH (number2 (now (a .board)) (a .at + 2)) (a .k + 1)
     (shiftFieldsAt (now (a .board)) (a .h .n) (a .h .setup .group .p) (a .h .setup .group .q) (a .at) rows)
     (shiftProofAt (now (a .board)) (a .h) (a .before) (a .at) rows (a .a - 1))
     (recordFault sha256 (now (a .board)) (headOf (now (a .board)) (a .h)) (a .a) (suc (a .m)) (a .k))
@@ -80,5 +80,5 @@ pub shift-fault-spec : {M : Type 1} → statement M
 shift-fault-spec =
     tie.close
     (tie.spec (λ c. search needs) (λ c. search needs) (λ c κs. search needs) (λ c. search needs) (λ c κs. search needs) (λ c. search needs) returns
-    (λ c. search needs) (λ c. omega (arith, few c)) (λ c. omega (arith, few c)) (λ c. omega (arith, few c)) fields-good-requires returns-2 (λ c. search needs) shift-proof-requires returns-3
-    returns-4)
+    (λ c. search needs) (λ c. omega (arith, few c)) (λ c. omega (arith, few c)) (λ c. omega (arith, few c)) fields-good-requires returns-2
+    (λ c. search needs) shift-proof-requires returns-3 returns-4)

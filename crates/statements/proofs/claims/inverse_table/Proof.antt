@@ -5,7 +5,7 @@ use native.Mathlib.Omega.{arith}
 use lib.ListN.{length-set}
 use borrow.Author.Needs.{needs}
 use Rattle.group.specs.Arithmetic.{powMod}
-use Rattle.rules.specs.Bytes.{word}
+use Rattle.rules.specs.Bytes.{number4}
 use lib.Seq.{getD-set-other}
 use Rattle.statements.specs.Claims.{InverseTable}
 use Rattle.statements.proofs.Tables.{filled-more, zero-everywhere}
@@ -30,7 +30,7 @@ loop-again c =
       record {
         long = simp length-set (w .long);
         inverted =
-            filled-more (λ v. powMod (a .p) (word (now (a .s)) (a .at + 4 + 4 * v)) (a .q - 1)) (l .table) (l .u) (c .pow .result .0) (omega arith)
+            filled-more (λ v. powMod (a .p) (number4 (now (a .s)) (a .at + 4 + 4 * v)) (a .q - 1)) (l .table) (l .u) (c .pow .result .0) (omega arith)
             (rw (← c .before .as-element .ensures) (c .pow .ensures)) (w .inverted);
         zeros = λ v h. getD-set-other (l .table) (l .u) v (c .pow .result .0) 0 (λ e. omega arith) ∙ w .zeros v (omega arith);
       },

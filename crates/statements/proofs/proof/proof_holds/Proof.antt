@@ -9,12 +9,12 @@ use native.Mathlib.Omega.{arith}
 use borrow.Author.Needs.{needs}
 use borrow.Author.Tests.{not-true, not-false}
 use lib.ListN.{length}
-use Rattle.numbers.specs.Below.{allBelow, sumBelow, blocks}
+use Rattle.numbers.specs.Below.{allBelow, sumBelow, concatBelow}
 use Rattle.numbers.proofs.Tests.{all-none, all-more, all-end}
 use Rattle.sha256.specs.Feed.{Fed}
 use Rattle.sha256.specs.Message.{sha256}
 use Rattle.group.specs.Elements.{parametersOf}
-use Rattle.rules.specs.Bytes.{long}
+use Rattle.rules.specs.Bytes.{number8}
 use Rattle.rules.specs.Proofs.{proofHolds, branchAt, statementAt}
 use Rattle.statements.specs.Claims.{claimOf}
 use Rattle.statements.proofs.Branches.{here, branchHere, piece, pieces, challenges, within, branch-within, nothing-more, sum-more, fails-there, sums-up, fed-more, fed-branch}
@@ -25,7 +25,7 @@ abbrev Inv-loop : tie.InvT-loop
 Inv-loop board label inverses at branches statements g n claim h₀ sum ok₀ l from e i₀ h ok i =
     (i ≤ statements) × (ok ≡ true)
     × (allBelow i (here board (parametersOf (g .group)) (claimOf board (parametersOf (g .group)) n claim) at statements l) ≡ true)
-    × Fed h ((label ++ blocks l (pieces board at statements)) ++ blocks i (piece board at statements l))
+    × Fed h ((label ++ concatBelow l (pieces board at statements)) ++ concatBelow i (piece board at statements l))
 
 abbrev μ-loop : tie.MeasureT-loop
 μ-loop board label inverses at branches statements g n claim h₀ sum ok₀ l from e i₀ h ok i = statements - i
@@ -34,21 +34,21 @@ abbrev Inv-branches : tie.InvT-branches
 Inv-branches board label inverses at branches statements g n claim h₀ sum₀ ok₀ l₀ h sum ok l =
     (l ≤ branches) × (ok ≡ true)
     × (allBelow l (branchHere board (parametersOf (g .group)) (claimOf board (parametersOf (g .group)) n claim) at statements) ≡ true)
-    × (sum .0 ≡ sumBelow l (challenges board at statements) % g .group .q) × Fed h (label ++ blocks l (pieces board at statements))
+    × (sum .0 ≡ sumBelow l (challenges board at statements) % g .group .q) × Fed h (label ++ concatBelow l (pieces board at statements))
 
 abbrev μ-branches : tie.MeasureT-branches
 μ-branches board label inverses at branches statements g n claim h₀ sum₀ ok₀ l₀ h sum ok l = branches - l
 
-abbrev start-from-update : tie.After-update → tie.Start
+abbrev start-from-update : tie.After-update Inv-loop μ-loop Inv-branches μ-branches → tie.Start Inv-loop μ-loop Inv-branches μ-branches
 start-from-update c = c .before .before .before .before .before
 
-abbrev start-from-loop : tie.At-loop → tie.Start
+abbrev start-from-loop : tie.At-loop Inv-loop μ-loop Inv-branches μ-branches → tie.Start Inv-loop μ-loop Inv-branches μ-branches
 start-from-loop c = start-from-update (c .before .before .before .before .before)
 
-abbrev start-from-update2 : tie.After-update2 → tie.Start
+abbrev start-from-update2 : tie.After-update2 Inv-loop μ-loop Inv-branches μ-branches → tie.Start Inv-loop μ-loop Inv-branches μ-branches
 start-from-update2 c = start-from-loop (c .before .before .before .before .before)
 
-abbrev start-from-digest : tie.After-digest → tie.Start
+abbrev start-from-digest : tie.After-digest Inv-loop μ-loop Inv-branches μ-branches → tie.Start Inv-loop μ-loop Inv-branches μ-branches
 start-from-digest c = start-from-update (c .before .before .before .before .before)
 
 branches-holds : tie.Need-branches-holds Inv-loop μ-loop Inv-branches μ-branches
@@ -119,7 +119,7 @@ loop-again c =
       omega (arith, c .before .before .before .before .loop-test .taken),
       t .inv .1,
       all-more _ _ (t .inv .2) (sym (this (c .before .before .before)) ∙ not-false _ (c .before .before .if1 .left)),
-      fed-more (c .update2 .result) (now (a .label) ++ blocks (o .l) (pieces (now (a .board)) (a .at) (a .statements))) (now (a .board)) (a .at)
+      fed-more (c .update2 .result) (now (a .label) ++ concatBelow (o .l) (pieces (now (a .board)) (a .at) (a .statements))) (now (a .board)) (a .at)
           (a .statements) (o .l) (t .i) (c .update2 .ensures _ (t .inv .3)),
     )
 
@@ -149,7 +149,7 @@ record Done (c : tie.Left-branches Inv-loop μ-loop Inv-branches μ-branches) : 
       c .branches-test .sum .0 ≡ sumBelow (a .branches) (challenges (now (a .board)) (a .at) (a .statements)) % a .g .group .q
   pub fed :
       let a = c .before .before .before .before .before .before .before .args in
-      Fed (c .branches-test .h) (now (a .label) ++ blocks (a .branches) (pieces (now (a .board)) (a .at) (a .statements)))
+      Fed (c .branches-test .h) (now (a .label) ++ concatBelow (a .branches) (pieces (now (a .board)) (a .at) (a .statements)))
 
 -- where the ways out of the loops meet
 after : (c : tie.Left-branches Inv-loop μ-loop Inv-branches μ-branches) →
@@ -195,10 +195,15 @@ returns-2 c =
     let k = after (c .before .before .before .before .before .before) .0 (not-false _ (c .before .before .before .before .before .if2 .left)) in
     sums-up (now (a .board)) (now (a .label)) (parametersOf (a .g .group)) (claimOf (now (a .board)) (parametersOf (a .g .group)) (a .n) (a .claim))
     (a .at) (a .branches) (a .statements) _ _ (k .all) (k .sum)
-    (c .before .before .challenge .ensures ∙ ap (λ (d : List ℕ). long d 0 % a .g .group .q)
+    (c .before .before .challenge .ensures ∙ ap (λ (d : List ℕ). number8 d 0 % a .g .group .q)
     (c .before .before .before .before .finish .ensures _ (k .fed)))
 
 pub proof-holds-spec : {M : Type 1} → statement M
 proof-holds-spec =
     tie.close
-    (tie.spec Inv-loop μ-loop Inv-branches μ-branches (λ c κs. search needs) (λ c κs. search needs) branches-holds (λ c. omega (arith, branch-fits c)) (λ c. omega (arith, branch-fits c)) (λ c. omega (arith, branch-fits c)) (λ c. omega (arith, branch-fits c)) (λ c κs. omega (arith, branch-fits c)) (λ c κs. search needs) loop-holds (λ c. omega (arith, fits c)) (λ c. omega (arith, fits c)) (λ c. omega (arith, fits c)) statement-at-requires (λ c. omega (arith, fits (c .before .before))) (λ c. omega (arith, fits (c .before .before))) (λ c. omega (arith, fits (c .before .before))) (λ c. omega (arith, fits (c .before .before))) (λ c κs. search needs) add-i (λ c. omega arith) loop-again (λ c. omega arith) (λ c. omega arith) branches-again (λ c. after (c .before) .1 (not-true _ (c .if2 .taken))) (λ c κs. search needs) (λ c κs. search needs) returns-2)
+    (tie.spec Inv-loop μ-loop Inv-branches μ-branches (λ c κs. search needs) (λ c κs. search needs) branches-holds (λ c. omega (arith, branch-fits c))
+    (λ c. omega (arith, branch-fits c)) (λ c. omega (arith, branch-fits c)) (λ c. omega (arith, branch-fits c)) (λ c κs. omega (arith, branch-fits c))
+    (λ c κs. search needs) loop-holds (λ c. omega (arith, fits c)) (λ c. omega (arith, fits c)) (λ c. omega (arith, fits c)) statement-at-requires
+    (λ c. omega (arith, fits (c .before .before))) (λ c. omega (arith, fits (c .before .before))) (λ c. omega (arith, fits (c .before .before)))
+    (λ c. omega (arith, fits (c .before .before))) (λ c κs. search needs) add-i (λ c. omega arith) loop-again (λ c. omega arith) (λ c. omega arith)
+    branches-again (λ c. after (c .before) .1 (not-true _ (c .if2 .taken))) (λ c κs. search needs) (λ c κs. search needs) returns-2)

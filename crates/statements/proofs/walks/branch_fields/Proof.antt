@@ -5,8 +5,8 @@ use mathlib.Core.Bool.{true}
 use native.Mathlib.Omega.{arith}
 use lib.Dec.{ltb}
 use borrow.Author.Needs.{needs}
-use Rattle.fields.proofs.Told.{exponent-value, exponent-refused}
-use Rattle.rules.specs.Bytes.{word}
+use Rattle.fields.proofs.Values.{exponent-value, exponent-refused}
+use Rattle.rules.specs.Bytes.{number4}
 use Rattle.statements.specs.Walks.{statementFields}
 use Rattle.statements.proofs.Reading.{Walked, walked-none, walked-more, walked-bad, walked-end}
 use Rattle.statements.proofs.walks.branch_fields.Statement.{statement}
@@ -20,7 +20,7 @@ abbrev μ-loop : tie.MeasureT-loop
 
 -- the challenge, read
 first : (c : tie.After-known-told Inv-loop μ-loop) →
-    let a = c .before .before .before .before .before .args in (ltb (word (now (a .board)) (a .at)) (a .q) ≡ true) ×
+    let a = c .before .before .before .before .before .args in (ltb (number4 (now (a .board)) (a .at)) (a .q) ≡ true) ×
     (c .before .first .given .0 .1 .0 ≡ a .at + 4)
 first c =
     let a = c .before .before .before .before .before .args in

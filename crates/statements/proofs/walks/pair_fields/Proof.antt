@@ -4,7 +4,7 @@ use native.Mathlib.Omega.{arith}
 use borrow.Author.Needs.{needs}
 use Rattle.fields.specs.Answers.{elementAt}
 use Rattle.fields.specs.declared.ElementField.the-variants.{Value}
-use Rattle.fields.proofs.Told.{element-value}
+use Rattle.fields.proofs.Values.{element-value}
 use Rattle.statements.proofs.Reading.{first-bad, second-bad, both-good}
 use Rattle.statements.proofs.walks.pair_fields.Statement.{statement}
 use Rattle.statements.proofs.walks.pair_fields.Tie as tie

@@ -1,4 +1,3 @@
--- `piece_at` meets its contract: the tests that led to a return say which case of `pieceAt` holds. Assumes nothing.
 use borrow.Author.Needs.{needs}
 use native.Mathlib.Omega.{arith}
 use denote.Ref.{now}
@@ -13,10 +12,10 @@ returns-2 : tie.Need-returns-2
 returns-2 c = let a = c .before .before .before .args in no-length (now (a .s)) (a .at) (omega arith)
 
 returns-3 : tie.Need-returns-3
-returns-3 c = let a = c .before .before .before .before .before .args in no-bytes (now (a .s)) (a .at) (omega arith) (omega (arith, c .before .word .ensures))
+returns-3 c = let a = c .before .before .before .before .before .args in no-bytes (now (a .s)) (a .at) (omega arith) (omega (arith, c .before .number4 .ensures))
 
 returns-4 : tie.Need-returns-4
-returns-4 c = let a = c .before .before .before .before .before .args in found (now (a .s)) (a .at) (c .before .word .result) (c .before .word .ensures) (omega arith)
+returns-4 c = let a = c .before .before .before .before .before .args in found (now (a .s)) (a .at) (c .before .number4 .result) (c .before .number4 .ensures) (omega arith)
 
 pub piece-at-spec : {M : Type 1} → statement M
 piece-at-spec =

@@ -1,4 +1,3 @@
--- `room` meets its contract. Assumes nothing.
 use Prim.Native.Nat.{ℕ}
 use mathlib.Core.Path.{sym}
 use lib.ListN.{length-replicate, getD-replicate}

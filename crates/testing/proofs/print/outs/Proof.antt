@@ -1,4 +1,3 @@
--- `outs` is safe and ends. Assumes nothing.
 use Prim.Native.Nat.{_-_, _≤_}
 use borrow.Author.Needs.{needs}
 use Rattle.testing.proofs.print.outs.Statement.{statement}

@@ -1,0 +1,74 @@
+-- A ballot's records, from what the code works out.
+use Prim.Native.Nat.{ℕ, suc, _+_, _*_, _-_, _≤_, _<_}
+use mathlib.Core.Path.{_≡_, sym, ap, _∙_, fun-ext}
+use mathlib.Core.List.{List, [], _∷_, _++_}
+use native.Mathlib.Omega.{arith}
+use lib.ListN.{length, take, replicate, getD}
+use lib.Seq.{take-at}
+use Rattle.sha256.specs.Message.{sha256}
+use Rattle.group.specs.Elements.{Parameters}
+use Rattle.rules.specs.Answers.{withZeros}
+use Rattle.jobs.specs.Job.{Job, remaining, rowOf, rankingOf, recordDraws, roundDraws, drawsAt, rowsOf}
+use Rattle.jobs.specs.Board.{recordBytes}
+use Rattle.proving.specs.Plans.{DrawsBelow}
+use Rattle.ballots.specs.declared.shift.Shift.{Shift}
+use Rattle.ballots.specs.Parts.{Shifting, shiftOf}
+use Rattle.ballots.proofs.Entries.{spread-part}
+use Rattle.jobs.proofs.Draws.{draws-within, secrets-within, round-more}
+use Rattle.jobs.specs.Records.{ballotBytes, shiftBytes}
+use Rattle.plain.proofs.Lists.{padded-at}
+
+-- the whole of a list stands at the front of it padded
+pub front-of : (l : List ℕ) (n : ℕ) → length l ≡ n → take n (withZeros l) ≡ l
+unfolding withZeros
+front-of l n e = take-at l (replicate (8 - length l) 0) n e
+
+pub place-is : (a size n p : ℕ) (list l : List ℕ) → p ≡ rowOf a (take size list) → list ≡ withZeros l → size ≡ n → length l ≡ n → p ≡ rowOf a l
+place-is a size n p list l ep el es en = ep ∙ rw (el, es, front-of l n en)
+
+-- the rows of an array of 8 that holds them
+rows-are : (job : Job) (gone : List ℕ) (k : ℕ) (list : List ℕ) → list ≡ withZeros (remaining gone (rankingOf job k)) → (λ (i : ℕ). getD list i 0) ≡ rowsOf job gone k
+rows-are job gone k list e = fun-ext (λ i. ap (λ (l : List ℕ). getD l i 0) e ∙ padded-at (remaining gone (rankingOf job k)) i)
+
+pub ballot-is : (job : Job) (g : Parameters) (k : ℕ) (before : List ℕ) (a : ℕ) (list : List ℕ) → list ≡ withZeros (remaining [] (rankingOf job k)) →
+    ballotBytes sha256 (job .label) g (job .n) (k + 1) (λ i. getD list i 0) (job .draws) (drawsAt (job .n) (job .K) 0 k) ≡ recordBytes sha256 job g before a 0 k
+unfolding recordBytes
+ballot-is job g k before a list e =
+    ap (λ (f : ℕ → ℕ). ballotBytes sha256 (job .label) g (job .n) (k + 1) f (job .draws) (drawsAt (job .n) (job .K) 0 k)) (rows-are job [] k list e)
+
+module _ (job : Job) (g : Parameters) (k j : ℕ) (before : List ℕ) (a : ℕ) (s : Shift)
+    (en : s .n ≡ job .n) (er : s .rows ≡ job .n - suc j) (enu : s .number ≡ k + 1)
+    (eb : s .before ≡ withZeros (remaining before (rankingOf job k))) (ea : s .after ≡ withZeros (remaining (before ++ (a ∷ [])) (rankingOf job k)))
+    (es : s .struck ≡ rowOf a (remaining before (rankingOf job k))) (ec : s .column ≡ a - 1)
+    (eo : s .old ≡ drawsAt (job .n) (job .K) j k) (ew : s .new ≡ drawsAt (job .n) (job .K) (suc j) k) where
+  pub later-is : (m : ℕ) → m ≡ suc j → shiftOf (job .label) g s (job .draws) ≡ recordBytes sha256 job g before a m k
+  unfolding recordBytes
+  later-is m e =
+      let eb' = rows-are job before k (s .before) eb in
+      let ea' = rows-are job (before ++ (a ∷ [])) k (s .after) ea in
+      (λ i. shiftBytes sha256 (job .label) g (en i) (er i) (enu i) (eb' i) (ea' i) (es i) (ec i) (job .draws) (eo i) (ew i))
+      ∙ ap (λ (m : ℕ). recordBytes sha256 job g before a m k) (sym e)
+
+  pub shifting : (p : ℕ) → 0 < p → job .n ≤ 8 → suc j + 2 ≤ job .n → k < job .K → 1 ≤ a → a ≤ job .n → rowOf a (remaining before (rankingOf job k)) < job .n - j →
+      DrawsBelow (job .q) (job .draws) 0 (roundDraws (job .n) (job .K) (suc (suc j))) → Shifting p (job .q) s (job .draws)
+  unfolding recordDraws
+  shifting p hp few early low one high place d =
+      let here = draws-within (job .n) (job .K) (suc j) k low in
+      let there = draws-within (job .n) (job .K) j k low in
+      let inner = secrets-within (job .n) j in
+      let more = round-more (job .n) (job .K) (suc j) in
+      let rows : s .rows + 1 ≡ job .n - j = omega arith in
+      let cells : (s .rows + 1) * s .n ≡ (job .n - j) * job .n = rw (rows, en) in
+      let new-cells : s .rows * s .n ≡ (job .n - suc j) * job .n = rw (er, en) in
+      let long : s .rows * s .n + (s .rows + 1) * (3 + s .rows * s .n) - 1 ≡ recordDraws (job .n) (suc j) = rw (er, en) (omega arith) in
+      record {
+        modulus = hp;
+        some = omega arith;
+        few = omega arith;
+        left = omega arith;
+        fewer = omega arith;
+        inside = omega arith;
+        within = omega arith;
+        olds = rw cells (spread-part (job .q) (job .draws) 0 _ (s .old) ((job .n - j) * job .n) d (omega arith));
+        news = rw long (spread-part (job .q) (job .draws) 0 _ (s .new) (recordDraws (job .n) (suc j)) d (omega arith));
+      }

@@ -1,0 +1,21 @@
+use mathlib.Core.Path.{_∙_}
+use lib.ListN.{length}
+use denote.Ref.{now}
+use borrow.Author.Tests.{eq-eqb, ne-eqb}
+use borrow.Author.Needs.{needs}
+use Rattle.writer.proofs.validity.label_good.Statement.{statement}
+use Rattle.writer.proofs.validity.label_good.Tie as tie
+
+returns : tie.Need-returns
+returns c = rw (ne-eqb (length (now (c .before .before .args .label))) 32 (c .if1 .taken))
+
+returns-2 : tie.Need-returns-2
+returns-2 c = c .generators-good .ensures ∙ rw (eq-eqb (length (now (c .before .before .before .args .label))) 32 (c .before .if1 .left))
+
+pub label-good-spec : {M : Type 1} → statement M
+label-good-spec =
+    tie.close
+    (tie.spec
+    returns
+    (λ c κs. search needs)
+    returns-2)
