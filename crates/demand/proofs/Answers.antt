@@ -29,7 +29,7 @@ accepted-is-plain s r e rounds winner rankings a o =
 reply-is : (w : Reply) (order : List ℕ) (l rounds : ℕ) (outs : List ℕ) (winner : ℕ) → replyOf w order ≡ boardWritten l rounds outs winner →
     (w ≡ W.Board l rounds winner) × (take (rounds - 1) order ≡ outs)
 reply-is (W.Board l' rounds' winner') order l rounds outs winner e = (cc, cc)
-reply-is (W.Refused refusal which) order l rounds outs winner e = absurd (let z : _≡_ {A = ℕ} 0 1 = cc in omega arith)
+reply-is (W.Refused refusal ranking) order l rounds outs winner e = absurd (let z : _≡_ {A = ℕ} 0 1 = cc in omega arith)
 
 pub valid-is-written : (job : Job) (before after : List ℕ) (r : Written) →
     outcomeOf r ≡ writeOutcome sha256 job (length before) → after ≡ writeOutput sha256 job before → ValidIsWritten job before after r

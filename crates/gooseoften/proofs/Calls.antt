@@ -22,7 +22,7 @@ put-is (A.Refused refusal place) order answer v e o = rw (← e)
 
 reply-is : (a : Reply) (order answer : List ℕ) (v : Outcome) → replyOf a order ≡ v → order ≡ orderWritten v → replyPut a order answer ≡ writeAnswer v answer
 reply-is (W.Board long rounds winner) order answer v e o = let p = rw (← e) at o in rw (← e, ← p)
-reply-is (W.Refused refusal which) order answer v e o = rw (← e)
+reply-is (W.Refused refusal ranking) order answer v e o = rw (← e)
 
 pub checked : (board answer exit : List ℕ) (a : Answer) (order : List ℕ) (code : ℕ) →
     answerOf a order ≡ checkBoard sha256 board → order ≡ orderOf (checkBoard sha256 board) →

@@ -43,5 +43,5 @@ placed board (A.Refused refusal place) order e = board-refusal sha256 board (ref
 -- at most 1,000 rankings
 pub which-placed : (job : Job) (room : ℕ) (a : Reply) (order : List ℕ) → replyOf a order ≡ writeOutcome sha256 job room → rankingNamed a ≤ 7008
 which-placed job room (W.Board long rounds winner) order e = omega arith
-which-placed job room (W.Refused refusal which) order e =
-    omega (arith, job-refusal sha256 job room (refusalNumber refusal) which (sym e) .most)
+which-placed job room (W.Refused refusal ranking) order e =
+    omega (arith, job-refusal sha256 job room (refusalNumber refusal) ranking (sym e) .most)

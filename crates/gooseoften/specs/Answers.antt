@@ -33,9 +33,9 @@ job n K p q g0 counter label rankings draws =
 
 abbrev pub writeCode : Outcome → ℕ
 writeCode (boardWritten long rounds order winner) = 0
-writeCode (jobRefused number which) = refusalCode number which
+writeCode (jobRefused number ranking) = refusalCode number ranking
 
 -- with the board's length after it
 abbrev pub writeAnswer : Outcome → (answer : List ℕ) → List ℕ
 writeAnswer (boardWritten long rounds order winner) answer = written (resultNumbers rounds winner (withZeros order) ++ (long ∷ [])) answer
-writeAnswer (jobRefused number which) answer = answer
+writeAnswer (jobRefused number ranking) answer = answer

@@ -15,7 +15,7 @@ recordNamed (A.Refused refusal place) = place
 
 abbrev pub rankingNamed : Reply → ℕ
 rankingNamed (W.Board long rounds winner) = 0
-rankingNamed (W.Refused refusal which) = which
+rankingNamed (W.Refused refusal ranking) = ranking
 
 -- the order stands in an array of 8 with its zeros
 abbrev pub checkPut : Answer → (order answer : List ℕ) → List ℕ
@@ -24,4 +24,4 @@ checkPut (A.Refused refusal place) order answer = answer
 
 abbrev pub replyPut : Reply → (order answer : List ℕ) → List ℕ
 replyPut (W.Board long rounds winner) order answer = written (resultNumbers rounds winner order ++ (long ∷ [])) answer
-replyPut (W.Refused refusal which) order answer = answer
+replyPut (W.Refused refusal ranking) order answer = answer

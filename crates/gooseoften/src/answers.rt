@@ -85,6 +85,6 @@ pub fn put_reply(answer: &mut [usize], reply: Reply, order: [u8; 8]) -> usize
             put_one(&mut answer[10..], length);
             0
         }
-        Reply::Refused { refusal, which } => code(refusal, which),
+        Reply::Refused { refusal, ranking } => code(refusal, ranking),
     }
 }

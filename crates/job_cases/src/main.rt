@@ -50,9 +50,9 @@ fn print_reply(reply: Reply, order: [u8; 8], out: &[u8]) {
             print::text(b", rest ");
             print_kept(buffers::kept(out, length));
         }
-        Reply::Refused { refusal, which } => {
+        Reply::Refused { refusal, ranking } => {
             print::text(b" ");
-            print::refused(refusal, which);
+            print::refused(refusal, ranking);
             print::text(b", output ");
             print_kept(buffers::kept(out, 0));
         }

@@ -11,7 +11,7 @@ use Rattle.jobs.specs.declared.Written.{Written}
 -- of the array of 8 the first rounds - 1 are the order
 abbrev pub replyOf : Reply → (order : List ℕ) → Outcome
 replyOf (W.Board length rounds winner) order = boardWritten length rounds (take (rounds - 1) order) winner
-replyOf (W.Refused refusal which) order = jobRefused (refusalNumber refusal) which
+replyOf (W.Refused refusal ranking) order = jobRefused (refusalNumber refusal) ranking
 
 abbrev pub outcomeOf : Written → Outcome
 outcomeOf r = replyOf (r .reply) (r .order)
@@ -19,4 +19,4 @@ outcomeOf r = replyOf (r .reply) (r .order)
 -- what the array holds: the order of going out, then zeros; zeros alone where the job is refused
 abbrev pub orderWritten : Outcome → List ℕ
 orderWritten (boardWritten length rounds order winner) = withZeros order
-orderWritten (jobRefused number which) = replicate 8 0
+orderWritten (jobRefused number ranking) = replicate 8 0

@@ -60,7 +60,7 @@ firstBad job (suc k) = cond (eqb (firstBad job k) 0) (cond (isRanking (job .n) (
 unfoldable pub badRanking : Job → (number : ℕ) → ℕ
 badRanking job number = cond (eqb number 13 && eqb (length (job .rankings)) (job .K * job .n)) (firstBad job (job .K)) 0
 
--- "A written one gives the board's length and result", a refused one its number and which
+-- "A written one gives the board's length and result", a refused one its number and the bad ranking
 pub data Outcome : Type 0 where
   boardWritten : (length rounds : ℕ) (order : List ℕ) (winner : ℕ) → Outcome
   jobRefused : (number badRanking : ℕ) → Outcome

@@ -7,10 +7,10 @@ pub enum Reply {
         rounds: usize,
         winner: usize,
     },
-    // which: with 13 the first bad ranking from 1, else 0.
+    // ranking: with 13 the first bad one from 1, else 0.
     Refused {
         refusal: Refusal,
-        which: usize,
+        ranking: usize,
     },
 }
 

@@ -237,16 +237,16 @@ module _ (hash : List ℕ → List ℕ) (s : List ℕ) where
       ∙ ends-here m _ (λ k l. record-rules hash s h (outBefore s m) m k .1 (w .records m k one l)) (sheet-rules s h m (dueAt s m) .1 (w .sheets m one)) (w .closed) whole
       ∙ cc (w .rounds-are, w .order-is, w .winner-is)
 
-  refuses : (number which : ℕ) → FirstBroken hash s number which → checkBoard hash s ≡ refused number which
+  refuses : (number ranking : ℕ) → FirstBroken hash s number ranking → checkBoard hash s ≡ refused number ranking
   unfolding checkBoard
-  refuses number which (in-header e broken low) = rw (ne-eqb (headerFault hash s) 0 (λ z. omega arith), broken, e)
-  refuses number which (in-record m k l e before o broken low) =
+  refuses number ranking (in-header e broken low) = rw (ne-eqb (headerFault hash s) 0 (λ z. omega arith), broken, e)
+  refuses number ranking (in-record m k l e before o broken low) =
       let w = rw e at before in
       reached m (passed-of m k w) (of-open m k (rw e at o)) ∙ record-refused m _ k l (round-of m k (omega arith) w) (rw broken low) ∙ cc
-  refuses number which (in-sheet m e before o broken low) =
+  refuses number ranking (in-sheet m e before o broken low) =
       let w = rw e at before in
       reached m (passed-of m K w) (of-open m K (rw e at o)) ∙ sheet-refused m _ (round-of m K (omega arith) w) (rw broken low) ∙ cc
-  refuses number which (at-end m e before o closed remain numbered) =
+  refuses number ranking (at-end m e before o closed remain numbered) =
       let p = passed-of (suc m) 0 (rw (e, next-number m) at before) in
       reached m (passed-fewer p) (of-open m K o)
       ∙ bytes-remain m _ (λ k l. record-rules hash s h (outBefore s m) m k .1 (p .records m k (omega arith) l)) (sheet-rules s h m (dueAt s m) .1 (p .sheets m (omega arith))) closed remain

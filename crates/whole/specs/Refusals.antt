@@ -24,18 +24,18 @@ pub record BoardRefusal (s : List ℕ) (number place : ℕ) : Type 0 where
   pub most : place ≤ 7008
 
 -- "With 13 goes the first bad ranking from 1, or 0 for a wrong length; with the others 0."
-pub record JobRefusal (job : Job) (number which : ℕ) : Type 0 where
+pub record JobRefusal (job : Job) (number ranking : ℕ) : Type 0 where
   pub numbered : member number (3 ∷ 4 ∷ 5 ∷ 13 ∷ 14 ∷ 15 ∷ []) ≡ true
-  pub others : (number ≡ 13 → ⊥) → which ≡ 0
-  pub wrong-length : (length (job .rankings) ≡ job .K * job .n → ⊥) → which ≡ 0
+  pub others : (number ≡ 13 → ⊥) → ranking ≡ 0
+  pub wrong-length : (length (job .rankings) ≡ job .K * job .n → ⊥) → ranking ≡ 0
   pub first-bad : number ≡ 13 → length (job .rankings) ≡ job .K * job .n →
-      (k : ℕ) × (which ≡ suc k) × (k < job .K) × (isRanking (job .n) (rankingOf job k) ≡ false)
+      (k : ℕ) × (ranking ≡ suc k) × (k < job .K) × (isRanking (job .n) (rankingOf job k) ≡ false)
       × ((i : ℕ) → i < k → isRanking (job .n) (rankingOf job i) ≡ true)
-  pub most : which ≤ 1000
+  pub most : ranking ≤ 1000
 
 pub record Refusals (hash : List ℕ → List ℕ) : Type 0 where
   pub of-boards : (s : List ℕ) (number place : ℕ) → checkBoard hash s ≡ refused number place → BoardRefusal s number place
-  pub of-jobs : (job : Job) (room number which : ℕ) → writeOutcome hash job room ≡ jobRefused number which → JobRefusal job number which
+  pub of-jobs : (job : Job) (room number ranking : ℕ) → writeOutcome hash job room ≡ jobRefused number ranking → JobRefusal job number ranking
   -- a job is written just where it is valid and its board fits
   pub none : (job : Job) (room : ℕ) → (jobFault hash job room ≡ 0) ↔ (Valid hash job × (boardLength job ≤ room))
   -- the plain count of 2 or more processes ends by itself: more fuel changes nothing

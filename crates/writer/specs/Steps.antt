@@ -21,8 +21,8 @@ use Rattle.writer.specs.declared.validity.Tested.{Tested}
 use Rattle.writer.specs.declared.validity.Tested.the-variants.{Sound, Refused}
 
 -- the job is refused with a number and which, and the output stays as it is
-pub record Stops (job : Job) (out : List ℕ) (number which : ℕ) : Type 0 where
-  pub outcome : writeOutcome sha256 job (length out) ≡ jobRefused number which
+pub record Stops (job : Job) (out : List ℕ) (number ranking : ℕ) : Type 0 where
+  pub outcome : writeOutcome sha256 job (length out) ≡ jobRefused number ranking
   pub output : writeOutput sha256 job out ≡ out
 
 -- what the tests up to the rankings tell: the job's group, or the refusal, whatever the output

@@ -36,11 +36,11 @@ pub struct Job {
     pub counter: u8,
 }
 
-fn refused(refusal: Refusal, which: usize) -> Written
-    ensures { λ r. ⌜ (outcomeOf r ≡ jobRefused (refusalNumber refusal) which) × (r .order ≡ replicate 8 0) ⌝ }
+fn refused(refusal: Refusal, ranking: usize) -> Written
+    ensures { λ r. ⌜ (outcomeOf r ≡ jobRefused (refusalNumber refusal) ranking) × (r .order ≡ replicate 8 0) ⌝ }
 {
     Written {
-        reply: Reply::Refused { refusal, which },
+        reply: Reply::Refused { refusal, ranking },
         order: [0u8; 8],
     }
 }
@@ -92,7 +92,7 @@ pub fn write(job: Job, label: &[u8], rankings: &[u8], draws: &[u32], out: &mut [
     let tested = validity::up_to_rankings(job, label, rankings);
     let g = match tested {
         Tested::Sound(g) => g,
-        Tested::Refused(refusal, which) => return refused(refusal, which),
+        Tested::Refused(refusal, ranking) => return refused(refusal, ranking),
     };
     let ended = plain::rounds::count(rankings, job.n, job.k);
     let count = ended.count;

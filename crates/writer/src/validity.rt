@@ -17,7 +17,7 @@ ghost use Rattle.jobs.specs.Job.{groupOf};
 ghost use Rattle.writer.specs.Jobs.{jobOf};
 ghost use Rattle.writer.specs.Steps.{JobTested};
 
-// What the tests up to the rankings come to: the group, or the refusal and which.
+// What the tests up to the rankings come to: the group, or the refusal and the bad ranking.
 pub enum Tested {
     Sound(Group),
     Refused(Refusal, usize),
