@@ -52,7 +52,7 @@ fn write_shift_proof(out: &mut [u8], label: &[u8], g: Setup, s: Shift, page: &[u
     let a = s.column;
     let p = g.group.p;
     let q = g.group.q;
-    let w = sums::witnesses(q, n, rows, a, s.struck, draws, s.old, s.new);
+    let w = sums::witnesses(q, s, draws);
     let inverses = claims::inverse_table(page, p, q, 0, 2 * ((rows + 1) * n));
     let claim = Claim::Shift {
         before: 0,

@@ -1,4 +1,5 @@
 // Sums of secrets: the witnesses of rows, columns, sheets and shifts.
+use crate::shift::Shift;
 use group::Exponent;
 use statements::claims;
 ghost use mathlib.Core.Path.{_≡_};
@@ -29,30 +30,27 @@ fn past(q: u32, x: Exponent, y: Exponent) -> Exponent
     group::add(q, x, Exponent(q - y.0))
 }
 
-// The witnesses of a shift's true branch, row l struck and column a gone out.
-pub fn witnesses(
-    q: u32,
-    n: usize,
-    rows: usize,
-    a: usize,
-    l: usize,
-    draws: &[u32],
-    old: usize,
-    new: usize,
-) -> [Exponent; 64]
-    requires { ⌜ (0 < n) × (n ≤ 8) × (rows < 8) × (a < n) × (l ≤ rows) ⌝ }
-    requires { ⌜ DrawsBelow q (now draws) old ((rows + 1) * n) × DrawsBelow q (now draws) new (rows * n) ⌝ }
-    ensures { λ r. ⌜ Witnessed q n (now (draws .entry)) old new a l (2 + rows * n) r ⌝ }
+// The witnesses of a shift's true branch.
+pub fn witnesses(q: u32, s: Shift, draws: &[u32]) -> [Exponent; 64]
+    requires { ⌜ (0 < s .n) × (s .n ≤ 8) × (s .rows < 8) × (s .column < s .n) × (s .struck ≤ s .rows) ⌝ }
+    requires { ⌜ DrawsBelow q (now draws) (s .old) ((s .rows + 1) * s .n) × DrawsBelow q (now draws) (s .new) (s .rows * s .n) ⌝ }
+    ensures { λ r. ⌜ Witnessed q (s .n) (now (draws .entry)) (s .old) (s .new) (s .column) (s .struck) (2 + s .rows * s .n) r ⌝ }
 {
+    let n = s.n;
+    let rows = s.rows;
+    let a = s.column;
+    let l = s.struck;
+    let old = s.old;
+    let new = s.new;
     let count = rows * n;
     let row = old + l * n;
     let mut w = [Exponent(0); 64];
     w[0] = Exponent(draws[row + a]);
     w[1] = sum_of(q, draws, row, 1, n, a);
     for c in 0..count {
-        let s = claims::source_of(n, l, c);
+        let from = claims::source_of(n, l, c);
         let x = draws[new + c];
-        let y = draws[old + s];
+        let y = draws[old + from];
         w[2 + c] = past(q, Exponent(x), Exponent(y));
     }
     w

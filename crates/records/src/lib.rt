@@ -2,6 +2,8 @@
 use rules::Refusal;
 use statements::Setup;
 use statements::claims::Claim;
+use statements::proof;
+use statements::proof::Shape;
 use statements::walks;
 use statements::walks::Walk;
 ghost use mathlib.Core.Path.{_≡_};
@@ -72,15 +74,10 @@ fn proof_good(
     ensures { λ r. ⌜ r ≡ proofHolds (now (board .entry)) at branches statements sha256 (part (now (board .entry)) 22 32) (parametersOf (h .setup .group)) (claimOf (now (board .entry)) (parametersOf (h .setup .group)) (h .n) claim) ⌝ }
 {
     let label = &board[22..layout::HEADER_LENGTH];
-    statements::proof::proof_holds(
-        board,
-        label,
-        inverses,
+    let shape = Shape {
         at,
         branches,
         statements,
-        h.setup,
-        h.n,
-        claim,
-    )
+    };
+    proof::proof_holds(board, label, inverses, shape, h.setup, h.n, claim)
 }

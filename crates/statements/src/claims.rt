@@ -102,30 +102,37 @@ pub fn source_of(n: usize, l: usize, t: usize) -> usize
     t + n
 }
 
+// A shift's matrices: where the record before and the new one start, the rows of the new one, and the column gone out.
+struct Struck {
+    before: usize,
+    new: usize,
+    rows: usize,
+    a: usize,
+}
+
 fn claimed_shift(
     s: &[u8],
     inverses: &[u32],
     g: Setup,
     n: usize,
-    before: usize,
-    new: usize,
-    rows: usize,
-    a: usize,
+    m: Struck,
     l: usize,
     k: usize,
 ) -> Statement
     requires { ⌜ Ready g ⌝ }
-    requires { ⌜ Shifts (now s) (now inverses) (parametersOf (g .group)) n before new rows a l k ⌝ }
-    ensures { λ r. ⌜ statementOf r ≡ shiftClaim (parametersOf (g .group)) n (matrixAt (now (s .entry)) n before) (matrixAt (now (s .entry)) n new) a l k ⌝ }
+    requires { ⌜ Shifts (now s) (now inverses) (parametersOf (g .group)) n (m .before) (m .new) (m .rows) (m .a) l k ⌝ }
+    ensures { λ r. ⌜ statementOf r ≡ shiftClaim (parametersOf (g .group)) n (matrixAt (now (s .entry)) n (m .before)) (matrixAt (now (s .entry)) n (m .new)) (m .a) l k ⌝ }
 {
     let p = g.group.p;
+    let before = m.before;
+    let new = m.new;
     if k == 0 {
-        return claimed_entry(s, g, n, before, l, a, 1);
+        return claimed_entry(s, g, n, before, l, m.a, 1);
     }
     if k == 1 {
         let place = before + 4 + 8 * (l * n);
-        let b = fields::product_besides(s, p, place, 8, n, a);
-        let y = fields::product_besides(s, p, place + 4, 8, n, a);
+        let b = fields::product_besides(s, p, place, 8, n, m.a);
+        let y = fields::product_besides(s, p, place + 4, 8, n, m.a);
         return Statement { left: b, right: y };
     }
     let t = k - 2;
@@ -163,7 +170,15 @@ pub fn claimed(
             new,
             rows,
             a,
-        } => claimed_shift(s, inverses, g, n, before, new, rows, a, l, k),
+        } => {
+            let m = Struck {
+                before,
+                new,
+                rows,
+                a,
+            };
+            claimed_shift(s, inverses, g, n, m, l, k)
+        }
     }
 }
 

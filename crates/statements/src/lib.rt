@@ -33,23 +33,29 @@ pub struct Statement {
     pub right: Element,
 }
 
+// What a proof shows for a statement: its commitments and its response.
+pub struct Shown {
+    pub t1: Element,
+    pub t2: Element,
+    pub r: Exponent,
+}
+
 // One statement, at any two bases.
 pub fn statement_holds(
     p: u32,
     base0: Element,
     base1: Element,
     st: Statement,
-    t1: Element,
-    t2: Element,
+    shown: Shown,
     e: Exponent,
-    r: Exponent,
 ) -> bool
     requires { ⌜ 0 < p ⌝ }
-    ensures { λ b. ⌜ b ≡ statementHolds p (base0 .0) (base1 .0) (statementOf st) (t1 .0) (t2 .0) (e .0) (r .0) ⌝ }
+    ensures { λ b. ⌜ b ≡ statementHolds p (base0 .0) (base1 .0) (statementOf st) (shown .t1 .0) (shown .t2 .0) (e .0) (shown .r .0) ⌝ }
 {
-    let left = group::mul(p, t1, group::pow(p, st.left, e));
+    let r = shown.r;
+    let left = group::mul(p, shown.t1, group::pow(p, st.left, e));
     if group::pow(p, base0, r).0 == left.0 {
-        let right = group::mul(p, t2, group::pow(p, st.right, e));
+        let right = group::mul(p, shown.t2, group::pow(p, st.right, e));
         group::pow(p, base1, r).0 == right.0
     } else {
         false

@@ -1,5 +1,6 @@
 // The check of a proof: statements of equal logarithms (Chaum and Pedersen 1992) in branches of which one is true (Cramer, Damgård and Schoenmakers 1994).
 use crate::Setup;
+use crate::Shown;
 use crate::claims;
 use crate::claims::Claim;
 use group::Exponent;
@@ -14,28 +15,42 @@ ghost use Rattle.rules.specs.Proofs.{statementHolds, proofHolds};
 ghost use Rattle.statements.specs.Values.{Ready};
 ghost use Rattle.statements.specs.Claims.{claimOf, Within};
 
-// The statement i of branch l, whose commitments and response stand at a place.
+// Statement i of branch l, and the place of its commitments and response.
+struct Spot {
+    l: usize,
+    i: usize,
+    place: usize,
+}
+
+// One statement of a proof, under its branch's challenge.
 fn statement_at(
     board: &[u8],
     inverses: &[u32],
     g: Setup,
     n: usize,
     claim: Claim,
-    l: usize,
-    i: usize,
-    place: usize,
+    spot: Spot,
     e: Exponent,
 ) -> bool
     requires { ⌜ Ready g ⌝ }
-    requires { ⌜ place + 12 ≤ length (now board) ⌝ }
-    requires { ⌜ Within (now board) (now inverses) (parametersOf (g .group)) n claim l i ⌝ }
-    ensures { λ r. ⌜ r ≡ statementHolds (g .group .p) (g .group .g0 .0) (g .group .g1 .0) (claimOf (now (board .entry)) (parametersOf (g .group)) n claim l i) (number4 (now (board .entry)) place) (number4 (now (board .entry)) (place + 4)) (e .0) (number4 (now (board .entry)) (place + 8)) ⌝ }
+    requires { ⌜ spot .place + 12 ≤ length (now board) ⌝ }
+    requires { ⌜ Within (now board) (now inverses) (parametersOf (g .group)) n claim (spot .l) (spot .i) ⌝ }
+    ensures { λ r. ⌜ r ≡ statementHolds (g .group .p) (g .group .g0 .0) (g .group .g1 .0) (claimOf (now (board .entry)) (parametersOf (g .group)) n claim (spot .l) (spot .i)) (number4 (now (board .entry)) (spot .place)) (number4 (now (board .entry)) (spot .place + 4)) (e .0) (number4 (now (board .entry)) (spot .place + 8)) ⌝ }
 {
-    let st = claims::claimed(board, inverses, g, n, claim, l, i);
+    let place = spot.place;
+    let st = claims::claimed(board, inverses, g, n, claim, spot.l, spot.i);
     let t1 = fields::as_element(board, place);
     let t2 = fields::as_element(board, place + 4);
     let r = fields::as_exponent(board, place + 8);
-    crate::statement_holds(g.group.p, g.group.g0, g.group.g1, st, t1, t2, e, r)
+    let shown = Shown { t1, t2, r };
+    crate::statement_holds(g.group.p, g.group.g0, g.group.g1, st, shown, e)
+}
+
+// Where a proof stands, its branches, and the statements of each.
+pub struct Shape {
+    pub at: usize,
+    pub branches: usize,
+    pub statements: usize,
 }
 
 // A proof: the first failing statement leaves both loops, over branches and statements.
@@ -43,18 +58,19 @@ pub fn proof_holds(
     board: &[u8],
     label: &[u8],
     inverses: &[u32],
-    at: usize,
-    branches: usize,
-    statements: usize,
+    shape: Shape,
     g: Setup,
     n: usize,
     claim: Claim,
 ) -> bool
     requires { ⌜ Ready g ⌝ }
-    requires { ⌜ at + branches * (4 + 12 * statements) ≤ length (now board) ⌝ }
-    requires { ⌜ ((l i : ℕ) → l < branches → i < statements → Within (now board) (now inverses) (parametersOf (g .group)) n claim l i) ⌝ }
-    ensures { λ r. ⌜ r ≡ proofHolds (now (board .entry)) at branches statements sha256 (now (label .entry)) (parametersOf (g .group)) (claimOf (now (board .entry)) (parametersOf (g .group)) n claim) ⌝ }
+    requires { ⌜ shape .at + shape .branches * (4 + 12 * shape .statements) ≤ length (now board) ⌝ }
+    requires { ⌜ ((l i : ℕ) → l < shape .branches → i < shape .statements → Within (now board) (now inverses) (parametersOf (g .group)) n claim l i) ⌝ }
+    ensures { λ r. ⌜ r ≡ proofHolds (now (board .entry)) (shape .at) (shape .branches) (shape .statements) sha256 (now (label .entry)) (parametersOf (g .group)) (claimOf (now (board .entry)) (parametersOf (g .group)) n claim) ⌝ }
 {
+    let at = shape.at;
+    let branches = shape.branches;
+    let statements = shape.statements;
     let mut h = Hasher::new().update(label);
     let mut sum = Exponent(0);
     let mut ok = true;
@@ -64,7 +80,8 @@ pub fn proof_holds(
         sum = group::add(g.group.q, sum, e);
         for i in 0..statements {
             let place = from + 4 + 12 * i;
-            if !statement_at(board, inverses, g, n, claim, l, i, place, e) {
+            let spot = Spot { l, i, place };
+            if !statement_at(board, inverses, g, n, claim, spot, e) {
                 ok = false;
                 break 'branches;
             }

@@ -7,7 +7,6 @@ use Rattle.statements.proofs.statement_holds.Tie as tie
 returns : tie.Need-returns
 unfolding statementHolds
 returns c =
-    let a = c .before .before .before .before .before .before .before .before .before .before .before .args in
     rw (
       ← c .before .before .before .before .before .before .before .before .before .before .pow .ensures,
       ←

@@ -22,22 +22,22 @@ use Rattle.statements.proofs.proof.proof_holds.Statement.{statement}
 use Rattle.statements.proofs.proof.proof_holds.Tie as tie
 
 abbrev Inv-loop : tie.InvT-loop
-Inv-loop board label inverses at branches statements g n claim h₀ sum ok₀ l from e i₀ h ok i =
+Inv-loop board label inverses g n claim at branches statements h₀ sum ok₀ l from e i₀ h ok i =
     (i ≤ statements) × (ok ≡ true)
     × (allBelow i (here board (parametersOf (g .group)) (claimOf board (parametersOf (g .group)) n claim) at statements l) ≡ true)
     × Fed h ((label ++ concatBelow l (pieces board at statements)) ++ concatBelow i (piece board at statements l))
 
 abbrev μ-loop : tie.MeasureT-loop
-μ-loop board label inverses at branches statements g n claim h₀ sum ok₀ l from e i₀ h ok i = statements - i
+μ-loop board label inverses g n claim at branches statements h₀ sum ok₀ l from e i₀ h ok i = statements - i
 
 abbrev Inv-branches : tie.InvT-branches
-Inv-branches board label inverses at branches statements g n claim h₀ sum₀ ok₀ l₀ h sum ok l =
+Inv-branches board label inverses g n claim at branches statements h₀ sum₀ ok₀ l₀ h sum ok l =
     (l ≤ branches) × (ok ≡ true)
     × (allBelow l (branchHere board (parametersOf (g .group)) (claimOf board (parametersOf (g .group)) n claim) at statements) ≡ true)
     × (sum .0 ≡ sumBelow l (challenges board at statements) % g .group .q) × Fed h (label ++ concatBelow l (pieces board at statements))
 
 abbrev μ-branches : tie.MeasureT-branches
-μ-branches board label inverses at branches statements g n claim h₀ sum₀ ok₀ l₀ h sum ok l = branches - l
+μ-branches board label inverses g n claim at branches statements h₀ sum₀ ok₀ l₀ h sum ok l = branches - l
 
 abbrev start-from-update : tie.After-update Inv-loop μ-loop Inv-branches μ-branches → tie.Start Inv-loop μ-loop Inv-branches μ-branches
 start-from-update c = c .before .before .before .before .before
@@ -60,22 +60,22 @@ branches-holds c =
 -- the branch is on the board, and so is the statement
 branch-fits : (c : tie.In-branches Inv-loop μ-loop Inv-branches μ-branches) →
     let a = (start-from-update (c .before .before)) .args in
-    (branchAt (a .at) (a .statements) (c .before .branches .l) + (4 + 12 * a .statements) ≤ length (now (a .board))) ×
+    (branchAt (a .shape .at) (a .shape .statements) (c .before .branches .l) + (4 + 12 * a .shape .statements) ≤ length (now (a .board))) ×
     (length (now (a .board)) < 2 ^ 64)
 branch-fits c =
     let a = (start-from-update (c .before .before)) .args in (
-      branch-within (a .at) (a .branches) (a .statements) (c .before .branches .l) (length (now (a .board)))
+      branch-within (a .shape .at) (a .shape .branches) (a .shape .statements) (c .before .branches .l) (length (now (a .board)))
           ((start-from-update (c .before .before)) .pre .1 .0) (c .branches-test .taken),
       omega (arith, (start-from-update (c .before .before)) .good),
     )
 
 fits : (c : tie.In-loop Inv-loop μ-loop Inv-branches μ-branches) →
     let a = (start-from-loop (c .before)) .args in
-    (statementAt (a .at) (a .statements) (c .before .before .before .before .before .branches .l) (c .before .loop .i) + 12 ≤ length
+    (statementAt (a .shape .at) (a .shape .statements) (c .before .before .before .before .before .branches .l) (c .before .loop .i) + 12 ≤ length
     (now (a .board))) × (length (now (a .board)) < 2 ^ 64)
 fits c =
     let a = (start-from-loop (c .before)) .args in (
-      within (a .at) (a .branches) (a .statements) (c .before .before .before .before .before .branches .l) (c .before .loop .i)
+      within (a .shape .at) (a .shape .branches) (a .shape .statements) (c .before .before .before .before .before .branches .l) (c .before .loop .i)
           (length (now (a .board)))
           ((start-from-loop (c .before)) .pre .1 .0)
           (c .before .before .before .before .branches-test .taken) (c .loop-test .taken),
@@ -102,14 +102,14 @@ statement-at-requires c κs =
 this : (c : tie.After-statement-at Inv-loop μ-loop Inv-branches μ-branches) →
     let a = (start-from-loop (c .before .before)) .args in
     c .statement-at .result
-    ≡ here (now (a .board)) (parametersOf (a .g .group)) (claimOf (now (a .board)) (parametersOf (a .g .group)) (a .n) (a .claim)) (a .at)
-    (a .statements)
+    ≡ here (now (a .board)) (parametersOf (a .g .group)) (claimOf (now (a .board)) (parametersOf (a .g .group)) (a .n) (a .claim)) (a .shape .at)
+    (a .shape .statements)
     (c .before .before .before .before .before .before .branches .l) (c .before .before .loop .i)
 this c = rw (← c .before .before .before .before .as-exponent .ensures) (c .statement-at .ensures)
 
 add-i : tie.Need-add-i Inv-loop μ-loop Inv-branches μ-branches
 add-i c =
-    omega (arith, (start-from-update2 c) .fits .statements, c .before .before .before .before .loop-test .taken)
+    omega (arith, (start-from-update2 c) .good, c .before .before .before .before .loop-test .taken)
 
 loop-again : tie.Need-loop-again Inv-loop μ-loop Inv-branches μ-branches
 loop-again c =
@@ -119,8 +119,8 @@ loop-again c =
       omega (arith, c .before .before .before .before .loop-test .taken),
       t .inv .1,
       all-more _ _ (t .inv .2) (sym (this (c .before .before .before)) ∙ not-false _ (c .before .before .if1 .left)),
-      fed-more (c .update2 .result) (now (a .label) ++ concatBelow (o .l) (pieces (now (a .board)) (a .at) (a .statements))) (now (a .board)) (a .at)
-          (a .statements) (o .l) (t .i) (c .update2 .ensures _ (t .inv .3)),
+      fed-more (c .update2 .result) (now (a .label) ++ concatBelow (o .l) (pieces (now (a .board)) (a .shape .at) (a .shape .statements))) (now (a .board)) (a .shape .at)
+          (a .shape .statements) (o .l) (t .i) (c .update2 .ensures _ (t .inv .3)),
     )
 
 branches-again : tie.Need-branches-again Inv-loop μ-loop Inv-branches μ-branches
@@ -128,42 +128,42 @@ branches-again c =
     let a = (start-from-loop (c .before)) .args in
     let o = c .before .before .before .before .before .branches in
     let t = c .before .loop in
-    let e : t .i ≡ a .statements = omega arith in (
+    let e : t .i ≡ a .shape .statements = omega arith in (
       omega arith,
       t .inv .1,
       all-more _ _ (o .inv .2) (all-end _ _ _ (t .inv .0) (c .loop-test .left) (t .inv .2)),
-      sum-more (a .g .group .q) _ _ _ (o .l) (challenges (now (a .board)) (a .at) (a .statements)) (o .inv .3)
+      sum-more (a .g .group .q) _ _ _ (o .l) (challenges (now (a .board)) (a .shape .at) (a .shape .statements)) (o .inv .3)
           (c .before .before .before .as-exponent .ensures) (c .before .before .add .ensures),
-      fed-branch (t .h) (now (a .label)) (now (a .board)) (a .at) (a .statements) (o .l) (t .i) e (t .inv .3),
+      fed-branch (t .h) (now (a .label)) (now (a .board)) (a .shape .at) (a .shape .statements) (o .l) (t .i) e (t .inv .3),
     )
 
 -- what holds where the loops end without a failing statement
 record Done (c : tie.Left-branches Inv-loop μ-loop Inv-branches μ-branches) : Type 0 where
   pub all :
       let a = c .before .before .before .before .before .before .before .args in
-      allBelow (a .branches) (branchHere (now (a .board)) (parametersOf (a .g .group))
-      (claimOf (now (a .board)) (parametersOf (a .g .group)) (a .n) (a .claim)) (a .at) (a .statements))
+      allBelow (a .shape .branches) (branchHere (now (a .board)) (parametersOf (a .g .group))
+      (claimOf (now (a .board)) (parametersOf (a .g .group)) (a .n) (a .claim)) (a .shape .at) (a .shape .statements))
       ≡ true
   pub sum :
       let a = c .before .before .before .before .before .before .before .args in
-      c .branches-test .sum .0 ≡ sumBelow (a .branches) (challenges (now (a .board)) (a .at) (a .statements)) % a .g .group .q
+      c .branches-test .sum .0 ≡ sumBelow (a .shape .branches) (challenges (now (a .board)) (a .shape .at) (a .shape .statements)) % a .g .group .q
   pub fed :
       let a = c .before .before .before .before .before .before .before .args in
-      Fed (c .branches-test .h) (now (a .label) ++ concatBelow (a .branches) (pieces (now (a .board)) (a .at) (a .statements)))
+      Fed (c .branches-test .h) (now (a .label) ++ concatBelow (a .shape .branches) (pieces (now (a .board)) (a .shape .at) (a .shape .statements)))
 
 -- where the ways out of the loops meet
 after : (c : tie.Left-branches Inv-loop μ-loop Inv-branches μ-branches) →
     let a = (start-from-update (c .before .before)) .args in
     (c .branches-test .ok ≡ true → Done c)
     × (c .branches-test .ok ≡ false →
-    false ≡ proofHolds (now (a .board)) (a .at) (a .branches) (a .statements) sha256 (now (a .label)) (parametersOf (a .g .group))
+    false ≡ proofHolds (now (a .board)) (a .shape .at) (a .shape .branches) (a .shape .statements) sha256 (now (a .label)) (parametersOf (a .g .group))
     (claimOf (now (a .board)) (parametersOf (a .g .group)) (a .n) (a .claim)))
 after c =
     let a = (start-from-update (c .before .before)) .args in
     let o = c .before .branches in
     ⊎-elim
     (λ w.
-    let e : o .l ≡ a .branches = omega (arith, w .0 .left) in (
+    let e : o .l ≡ a .shape .branches = omega (arith, w .0 .left) in (
       λ _. record {
         all = all-end _ _ _ (o .inv .0) (w .0 .left) (o .inv .2);
         sum = rw (w .2, ← e) (o .inv .3);
@@ -175,7 +175,7 @@ after c =
       λ z. absurd (true≢false (sym z ∙ w .9)),
       λ _. fails-there (now (a .board)) (now (a .label)) (parametersOf (a .g .group))
           (claimOf (now (a .board)) (parametersOf (a .g .group)) (a .n) (a .claim))
-          (a .at) (a .branches) (a .statements) (o .l) (w .3 .i) (w .0 .taken) (w .4 .taken)
+          (a .shape .at) (a .shape .branches) (a .shape .statements) (o .l) (w .3 .i) (w .0 .taken) (w .4 .taken)
           (sym (this (record {
             before = record {
               before = record {
@@ -194,7 +194,7 @@ returns-2 c =
     let a = (start-from-digest (c .before .before .before)) .args in
     let k = after (c .before .before .before .before .before .before) .0 (not-false _ (c .before .before .before .before .before .if2 .left)) in
     sums-up (now (a .board)) (now (a .label)) (parametersOf (a .g .group)) (claimOf (now (a .board)) (parametersOf (a .g .group)) (a .n) (a .claim))
-    (a .at) (a .branches) (a .statements) _ _ (k .all) (k .sum)
+    (a .shape .at) (a .shape .branches) (a .shape .statements) _ _ (k .all) (k .sum)
     (c .before .before .challenge .ensures ∙ ap (λ (d : List ℕ). number8 d 0 % a .g .group .q)
     (c .before .before .before .before .finish .ensures _ (k .fed)))
 
