@@ -26,11 +26,11 @@ pub spread-part : (q : ℕ) (draws : List ℕ) (from total at count : ℕ) → D
 spread-part q draws from total at count s h =
     record { positive = s .positive; low = s .low; near = omega (arith, s .near); enough = omega (arith, s .enough); below = λ d k. s .below d (omega arith) }
 
-abbrev pub planOf : (b s v from : ℕ) → Plan
-planOf b s v from = record { branches = b; statements = s; known = v; from = from }
+abbrev pub planOf : (n : ℕ) → Claim → (b s v from : ℕ) → Plan
+planOf n claim b s v from = record { branches = b; statements = s; known = v; from = from; n = n; claim = claim }
 
-pub drawn-of : (q : ℕ) (draws : List ℕ) (b s v from count : ℕ) → DrawsBelow q draws from count → b * (1 + s) ≡ count + 1 → b ≤ 8 → v < b → s < 100 →
-    PlanDraws q (planOf b s v from) draws
+pub drawn-of : {n : ℕ} {claim : Claim} (q : ℕ) (draws : List ℕ) (b s v from count : ℕ) → DrawsBelow q draws from count → b * (1 + s) ≡ count + 1 → b ≤ 8 → v < b → s < 100 →
+    PlanDraws q (planOf n claim b s v from) draws
 drawn-of q draws b s v from count w e few inside small =
     record {
       positive = w .positive;
@@ -45,12 +45,12 @@ drawn-of q draws b s v from count w e few inside small =
 
 -- a proof of one statement claims nothing outside the known branch
 pub planned-line : (g : Parameters) (page inverses : List ℕ) (n : ℕ) (claim : Claim) (draws : List ℕ) (from : ℕ) → DrawsBelow (g .q) draws from 1 →
-    Planned g page inverses n claim (planOf 1 1 0 from) draws
+    Planned g page inverses n claim (planOf n claim 1 1 0 from) draws
 planned-line g page inverses n claim draws from w =
     record { drawn = drawn-of (g .q) draws 1 1 0 from 1 w refl (omega arith) (omega arith) (omega arith); ready = λ l i h k m. absurd (m (omega arith)) }
 
 pub planned-entry : (g : Parameters) (page inverses : List ℕ) (n i j : ℕ) (draws : List ℕ) (v from : ℕ) → v < 2 → i < n → j < n → 4 + 8 * (n * n) ≤ length page →
-    DrawsBelow (g .q) draws from 3 → Planned g page inverses n (Entry 0 i j) (planOf 2 1 v from) draws
+    DrawsBelow (g .q) draws from 3 → Planned g page inverses n (Entry 0 i j) (planOf n (Entry 0 i j) 2 1 v from) draws
 unfolding Within
 planned-entry g page inverses n i j draws v from hv hi hj long w =
     record { drawn = drawn-of (g .q) draws 2 1 v from 3 w refl (omega arith) hv (omega arith); ready = λ l k h m e. (hi, hj, omega arith) }
@@ -63,15 +63,15 @@ one : (x : Exponent) (i : ℕ) → i < 1 → witnessAt (alone x) i ≡ x .0
 one x zero h = refl
 one x (suc i) h = absurd (omega arith)
 
-pub line-is : (label : List ℕ) (g : Parameters) (claim : ℕ → ℕ → Statement) (said : Statement) (w : Exponent) (x : ℕ) (draws : List ℕ) (from : ℕ) → w .0 ≡ x % g .q →
-    proofOf label g claim (planOf 1 1 0 from) (alone w) draws ≡ proofBytes g (lineProver draws said x from) sha256 label
-line-is label g claim said w x draws from e =
+pub line-is : (n : ℕ) (about : Claim) (label : List ℕ) (g : Parameters) (claim : ℕ → ℕ → Statement) (said : Statement) (w : Exponent) (x : ℕ) (draws : List ℕ) (from : ℕ) → w .0 ≡ x % g .q →
+    proofOf label g claim (planOf n about 1 1 0 from) (alone w) draws ≡ proofBytes g (lineProver draws said x from) sha256 label
+line-is n about label g claim said w x draws from e =
     proof-same sha256 label g (λ d. getD draws d 0) 1 1 0 from claim (λ _ _. said) _ _ (λ l i h k n. absurd (n (omega arith)))
     (λ i h. ap (λ (a : ℕ). a % g .q) (one w i h ∙ e) ∙ mod-mod x (g .q))
 
 pub entry-is : (label : List ℕ) (g : Parameters) (n : ℕ) (list : ℕ → ℕ) (page draws : List ℕ) (from c v : ℕ) (x : Exponent) → 0 < n → c < n * n →
     SameMatrix n n (matrixAt page n 0) (matrixOf g n list draws from) → v ≡ opened list (c / n) (c % n) → x .0 ≡ getD draws (from + c) 0 →
-    proofOf label g (claimOf page g n (Entry 0 (c / n) (c % n))) (planOf 2 1 v (from + n * n + 3 * c)) (alone x) draws ≡ entryIn label g n list draws from c
+    proofOf label g (claimOf page g n (Entry 0 (c / n) (c % n))) (planOf n (Entry 0 (c / n) (c % n)) 2 1 v (from + n * n + 3 * c)) (alone x) draws ≡ entryIn label g n list draws from c
 unfolding claimOf
 entry-is label g n list page draws from c v x some low same ev ex =
     rw (div-add-mod' c n, ← ev, ← ex)

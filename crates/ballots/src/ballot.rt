@@ -18,6 +18,14 @@ ghost use Rattle.jobs.specs.Records.{matrixOf, ballotProofBytes, ballotBytes};
 ghost use Rattle.sha256.specs.Message.{sha256};
 ghost use Rattle.ballots.specs.Parts.{Paged, entryIn};
 
+// A ballot: its number, the process of each row, and where its record's draws start.
+pub struct Ballot {
+    pub n: usize,
+    pub number: u32,
+    pub list: [u8; 8],
+    pub from: usize,
+}
+
 // A page with the pairs where the record at its start would have them.
 fn page_of(g: Group, n: usize, list: [u8; 8], draws: &[u32], from: usize) -> [u8; 516]
     requires { ⌜ (0 < g .p) × (0 < n) × (n ≤ 8) × (from < 2 ^ 40) × (from + n * n ≤ length (now draws)) ⌝ }
@@ -33,18 +41,19 @@ fn write_entry(
     out: &mut [u8],
     label: &[u8],
     g: Setup,
-    n: usize,
-    list: [u8; 8],
+    b: Ballot,
     page: &[u8],
     draws: &[u32],
-    from: usize,
     c: usize,
 )
-    requires { ⌜ Ready g × (0 < n) × (n ≤ 8) × (c < n * n) × (32 ≤ length (now out)) × (516 ≤ length (now page)) ⌝ }
-    requires { ⌜ DrawsBelow (g .group .q) (now draws) from (4 * (n * n) + 2 * n) ⌝ }
-    requires { ⌜ Paged (now page) 0 n n (matrixOf (parametersOf (g .group)) n (λ k. getD list k 0) (now draws) from) ⌝ }
-    ensures { λ _. ⌜ now (out .exit) ≡ written (entryIn (now (label .entry)) (parametersOf (g .group)) n (λ k. getD list k 0) (now (draws .entry)) from c) (now (out .entry)) ⌝ }
+    requires { ⌜ Ready g × (0 < b .n) × (b .n ≤ 8) × (c < b .n * b .n) × (32 ≤ length (now out)) × (516 ≤ length (now page)) ⌝ }
+    requires { ⌜ DrawsBelow (g .group .q) (now draws) (b .from) (4 * (b .n * b .n) + 2 * b .n) ⌝ }
+    requires { ⌜ Paged (now page) 0 (b .n) (b .n) (matrixOf (parametersOf (g .group)) (b .n) (λ k. getD (b .list) k 0) (now draws) (b .from)) ⌝ }
+    ensures { λ _. ⌜ now (out .exit) ≡ written (entryIn (now (label .entry)) (parametersOf (g .group)) (b .n) (λ k. getD (b .list) k 0) (now (draws .entry)) (b .from) c) (now (out .entry)) ⌝ }
 {
+    let n = b.n;
+    let list = b.list;
+    let from = b.from;
     let at = from + c;
     let v = pairs::opened(list, c / n, c % n);
     let claim = Claim::Entry {
@@ -57,74 +66,53 @@ fn write_entry(
         statements: 1,
         known: v as usize,
         from: from + n * n + 3 * c,
+        n,
+        claim,
     };
     // the witness of the one statement, in every place
     let w = [Exponent(draws[at]); 64];
     let no_inverses = [0u32; 0];
-    proving::make(out, label, g, page, &no_inverses, n, claim, plan, w, draws);
+    proving::make(out, label, g, page, &no_inverses, plan, w, draws);
 }
 
-fn write_entries(
-    out: &mut [u8],
-    label: &[u8],
-    g: Setup,
-    n: usize,
-    list: [u8; 8],
-    page: &[u8],
-    draws: &[u32],
-    from: usize,
-)
-    requires { ⌜ Ready g × (0 < n) × (n ≤ 8) × (32 * (n * n) ≤ length (now out)) × (516 ≤ length (now page)) ⌝ }
-    requires { ⌜ DrawsBelow (g .group .q) (now draws) from (4 * (n * n) + 2 * n) ⌝ }
-    requires { ⌜ Paged (now page) 0 n n (matrixOf (parametersOf (g .group)) n (λ k. getD list k 0) (now draws) from) ⌝ }
-    ensures { λ _. ⌜ now (out .exit) ≡ written (concatBelow (n * n) (entryIn (now (label .entry)) (parametersOf (g .group)) n (λ k. getD list k 0) (now (draws .entry)) from)) (now (out .entry)) ⌝ }
+fn write_entries(out: &mut [u8], label: &[u8], g: Setup, b: Ballot, page: &[u8], draws: &[u32])
+    requires { ⌜ Ready g × (0 < b .n) × (b .n ≤ 8) × (32 * (b .n * b .n) ≤ length (now out)) × (516 ≤ length (now page)) ⌝ }
+    requires { ⌜ DrawsBelow (g .group .q) (now draws) (b .from) (4 * (b .n * b .n) + 2 * b .n) ⌝ }
+    requires { ⌜ Paged (now page) 0 (b .n) (b .n) (matrixOf (parametersOf (g .group)) (b .n) (λ k. getD (b .list) k 0) (now draws) (b .from)) ⌝ }
+    ensures { λ _. ⌜ now (out .exit) ≡ written (concatBelow (b .n * b .n) (entryIn (now (label .entry)) (parametersOf (g .group)) (b .n) (λ k. getD (b .list) k 0) (now (draws .entry)) (b .from))) (now (out .entry)) ⌝ }
 {
+    let n = b.n;
     let count = n * n;
     for c in 0..count {
         let at = 32 * c;
-        write_entry(&mut out[at..], label, g, n, list, page, draws, from, c);
+        write_entry(&mut out[at..], label, g, b, page, draws, c);
     }
 }
 
 // The proofs of a ballot: of its entries, its rows and its columns.
-fn write_proofs(
-    out: &mut [u8],
-    label: &[u8],
-    g: Setup,
-    n: usize,
-    list: [u8; 8],
-    page: &[u8],
-    draws: &[u32],
-    from: usize,
-)
-    requires { ⌜ Ready g × (0 < n) × (n ≤ 8) × (32 * (n * n) + 32 * n ≤ length (now out)) × (516 ≤ length (now page)) ⌝ }
-    requires { ⌜ DrawsBelow (g .group .q) (now draws) from (4 * (n * n) + 2 * n) ⌝ }
-    requires { ⌜ Paged (now page) 0 n n (matrixOf (parametersOf (g .group)) n (λ k. getD list k 0) (now draws) from) ⌝ }
-    ensures { λ _. ⌜ now (out .exit) ≡ written (ballotProofBytes sha256 (now (label .entry)) (parametersOf (g .group)) n (λ k. getD list k 0) (now (draws .entry)) from) (now (out .entry)) ⌝ }
+fn write_proofs(out: &mut [u8], label: &[u8], g: Setup, b: Ballot, page: &[u8], draws: &[u32])
+    requires { ⌜ Ready g × (0 < b .n) × (b .n ≤ 8) × (32 * (b .n * b .n) + 32 * b .n ≤ length (now out)) × (516 ≤ length (now page)) ⌝ }
+    requires { ⌜ DrawsBelow (g .group .q) (now draws) (b .from) (4 * (b .n * b .n) + 2 * b .n) ⌝ }
+    requires { ⌜ Paged (now page) 0 (b .n) (b .n) (matrixOf (parametersOf (g .group)) (b .n) (λ k. getD (b .list) k 0) (now draws) (b .from)) ⌝ }
+    ensures { λ _. ⌜ now (out .exit) ≡ written (ballotProofBytes sha256 (now (label .entry)) (parametersOf (g .group)) (b .n) (λ k. getD (b .list) k 0) (now (draws .entry)) (b .from)) (now (out .entry)) ⌝ }
 {
+    let n = b.n;
     let count = n * n;
-    write_entries(out, label, g, n, list, page, draws, from);
+    write_entries(out, label, g, b, page, draws);
     let lines = 32 * count;
-    lines::write_lines(&mut out[lines..], label, g, page, n, draws, from);
+    lines::write_lines(&mut out[lines..], label, g, page, b, draws);
 }
 
-pub fn write_ballot(
-    out: &mut [u8],
-    label: &[u8],
-    g: Setup,
-    n: usize,
-    number: u32,
-    list: [u8; 8],
-    draws: &[u32],
-    from: usize,
-)
-    requires { ⌜ Ready g × (0 < n) × (n ≤ 8) × (4 + 40 * (n * n) + 32 * n ≤ length (now out)) ⌝ }
-    requires { ⌜ DrawsBelow (g .group .q) (now draws) from (4 * (n * n) + 2 * n) ⌝ }
-    ensures { λ _. ⌜ now (out .exit) ≡ written (ballotBytes sha256 (now (label .entry)) (parametersOf (g .group)) n number (λ k. getD list k 0) (now (draws .entry)) from) (now (out .entry)) ⌝ }
+pub fn write_ballot(out: &mut [u8], label: &[u8], g: Setup, b: Ballot, draws: &[u32])
+    requires { ⌜ Ready g × (0 < b .n) × (b .n ≤ 8) × (4 + 40 * (b .n * b .n) + 32 * b .n ≤ length (now out)) ⌝ }
+    requires { ⌜ DrawsBelow (g .group .q) (now draws) (b .from) (4 * (b .n * b .n) + 2 * b .n) ⌝ }
+    ensures { λ _. ⌜ now (out .exit) ≡ written (ballotBytes sha256 (now (label .entry)) (parametersOf (g .group)) (b .n) (b .number) (λ k. getD (b .list) k 0) (now (draws .entry)) (b .from)) (now (out .entry)) ⌝ }
 {
     let group = g.group;
-    let page = page_of(group, n, list, draws, from);
+    let n = b.n;
+    let list = b.list;
+    let page = page_of(group, n, list, draws, b.from);
     let proofs = 4 + 8 * (n * n);
-    pairs::put_front(out, layout::BA, number, &page[4..proofs]);
-    write_proofs(&mut out[proofs..], label, g, n, list, &page, draws, from);
+    pairs::put_front(out, layout::BA, b.number, &page[4..proofs]);
+    write_proofs(&mut out[proofs..], label, g, b, &page, draws);
 }

@@ -1,4 +1,5 @@
 // The proofs of a ballot's rows and columns: the sum of the line's secrets is its witness.
+use crate::ballot::Ballot;
 use crate::sums;
 use proving::Plan;
 use statements::Setup;
@@ -21,47 +22,43 @@ fn write_line(
     label: &[u8],
     g: Setup,
     page: &[u8],
-    n: usize,
+    b: Ballot,
     draws: &[u32],
-    from: usize,
     t: usize,
 )
-    requires { ⌜ Ready g × (0 < n) × (n ≤ 8) × (t < n + n) × (16 ≤ length (now out)) ⌝ }
-    requires { ⌜ DrawsBelow (g .group .q) (now draws) from (4 * (n * n) + 2 * n) ⌝ }
-    ensures { λ _. ⌜ ((M : Matrix) → now (out .exit) ≡ written (lineOf (now (label .entry)) (parametersOf (g .group)) n M (now (draws .entry)) from t) (now (out .entry))) ⌝ }
+    requires { ⌜ Ready g × (0 < b .n) × (b .n ≤ 8) × (t < b .n + b .n) × (16 ≤ length (now out)) ⌝ }
+    requires { ⌜ DrawsBelow (g .group .q) (now draws) (b .from) (4 * (b .n * b .n) + 2 * b .n) ⌝ }
+    ensures { λ _. ⌜ ((M : Matrix) → now (out .exit) ≡ written (lineOf (now (label .entry)) (parametersOf (g .group)) (b .n) M (now (draws .entry)) (b .from) t) (now (out .entry))) ⌝ }
 {
+    let n = b.n;
+    let from = b.from;
     let line = claims::line_of(n, t);
     let first = from + line.start;
     let sum = sums::sum_of(g.group.q, draws, first, line.stride, n, n);
     // the witness of the one statement, in every place
     let w = [sum; 64];
     let no_inverses = [0u32; 0];
+    let claim = Claim::Line { at: 0, t };
     let plan = Plan {
         branches: 1,
         statements: 1,
         known: 0,
         from: from + 4 * (n * n) + t,
+        n,
+        claim,
     };
-    let claim = Claim::Line { at: 0, t };
-    proving::make(out, label, g, page, &no_inverses, n, claim, plan, w, draws);
+    proving::make(out, label, g, page, &no_inverses, plan, w, draws);
 }
 
-pub fn write_lines(
-    out: &mut [u8],
-    label: &[u8],
-    g: Setup,
-    page: &[u8],
-    n: usize,
-    draws: &[u32],
-    from: usize,
-)
-    requires { ⌜ Ready g × (0 < n) × (n ≤ 8) × (32 * n ≤ length (now out)) ⌝ }
-    requires { ⌜ DrawsBelow (g .group .q) (now draws) from (4 * (n * n) + 2 * n) ⌝ }
-    ensures { λ _. ⌜ ((M : Matrix) → now (out .exit) ≡ written (concatBelow (n + n) (lineOf (now (label .entry)) (parametersOf (g .group)) n M (now (draws .entry)) from)) (now (out .entry))) ⌝ }
+pub fn write_lines(out: &mut [u8], label: &[u8], g: Setup, page: &[u8], b: Ballot, draws: &[u32])
+    requires { ⌜ Ready g × (0 < b .n) × (b .n ≤ 8) × (32 * b .n ≤ length (now out)) ⌝ }
+    requires { ⌜ DrawsBelow (g .group .q) (now draws) (b .from) (4 * (b .n * b .n) + 2 * b .n) ⌝ }
+    ensures { λ _. ⌜ ((M : Matrix) → now (out .exit) ≡ written (concatBelow (b .n + b .n) (lineOf (now (label .entry)) (parametersOf (g .group)) (b .n) M (now (draws .entry)) (b .from))) (now (out .entry))) ⌝ }
 {
+    let n = b.n;
     let count = n + n;
     for t in 0..count {
         let at = 16 * t;
-        write_line(&mut out[at..], label, g, page, n, draws, from, t);
+        write_line(&mut out[at..], label, g, page, b, draws, t);
     }
 }

@@ -65,8 +65,10 @@ fn write_shift_proof(out: &mut [u8], label: &[u8], g: Setup, s: Shift, page: &[u
         statements: 2 + rows * n,
         known: s.struck,
         from: s.new + rows * n,
+        n,
+        claim,
     };
-    proving::make(out, label, g, page, &inverses, n, claim, plan, w, draws);
+    proving::make(out, label, g, page, &inverses, plan, w, draws);
 }
 
 pub fn write_shift(out: &mut [u8], label: &[u8], g: Setup, s: Shift, draws: &[u32])

@@ -1,6 +1,7 @@
 // The records of a round's ballots.
 use crate::Size;
 use ballots::ballot;
+use ballots::ballot::Ballot;
 use ballots::shift;
 use ballots::shift::Shift;
 use count::Gone;
@@ -49,7 +50,13 @@ fn write_first(
     let gone = plan.gone;
     let list = rankings::still_in(rankings, first, n, gone);
     let here = plan.new + b * rounds::record_draws(n, 0);
-    ballot::write_ballot(out, label, g, n, numbers::low16(b + 1), list, draws, here);
+    let ballot = Ballot {
+        n,
+        number: numbers::low16(b + 1),
+        list,
+        from: here,
+    };
+    ballot::write_ballot(out, label, g, ballot, draws);
 }
 
 // Ballot b in a later round.

@@ -4,6 +4,7 @@ use crate::header;
 use crate::records;
 use crate::records::RoundPlan;
 use crate::sheet;
+use crate::sheet::SheetPlan;
 use count::Count;
 use plain::rankings;
 use plain::rounds;
@@ -77,18 +78,15 @@ fn write_round(
     let at = k * layout::record_length(n, m);
     let stride = rounds::record_draws(n, m);
     let q = g.group.q;
-    sheet::write_sheet(
-        &mut out[at..],
-        q,
+    let plan = SheetPlan {
         n,
-        numbers::low(m),
-        order[m],
-        sheet,
-        draws,
+        k,
+        m: numbers::low(m),
+        gone: order[m],
         from,
         stride,
-        k,
-    );
+    };
+    sheet::write_sheet(&mut out[at..], q, plan, sheet, draws);
 }
 
 fn write_rounds(

@@ -29,22 +29,26 @@ fn write_tally(
     output::put_number4(&mut out[2..], s.0);
 }
 
-// That of round m, from 0, whose draws start at a place and whose records need so many each.
-pub fn write_sheet(
-    out: &mut [u8],
-    q: u32,
-    n: usize,
-    m: u8,
-    gone: u8,
-    sheet: Sheet,
-    draws: &[u32],
-    from: usize,
-    stride: usize,
-    k: usize,
-)
-    requires { ⌜ (0 < q) × (0 < k) × (k ≤ 1000) × (stride ≤ 10000) × (n ≤ 8) × (from < 2 ^ 30) × (from + n + stride * (k - 1) ≤ length (now draws)) × (sheetLength n ≤ length (now out)) × (m < 8) ⌝ }
-    ensures { λ _. ⌜ now (out .exit) ≡ written (sheetBytes q n k (now (draws .entry)) from stride m gone (sheet .counts)) (now (out .entry)) ⌝ }
+// What a sheet is written for: n processes and k ballots, round m from 0, who went out, where the round's draws start, and how many each record needs.
+pub struct SheetPlan {
+    pub n: usize,
+    pub k: usize,
+    pub m: u8,
+    pub gone: u8,
+    pub from: usize,
+    pub stride: usize,
+}
+
+pub fn write_sheet(out: &mut [u8], q: u32, plan: SheetPlan, sheet: Sheet, draws: &[u32])
+    requires { ⌜ (0 < q) × (0 < plan .k) × (plan .k ≤ 1000) × (plan .stride ≤ 10000) × (plan .n ≤ 8) × (plan .from < 2 ^ 30) × (plan .from + plan .n + plan .stride * (plan .k - 1) ≤ length (now draws)) × (sheetLength (plan .n) ≤ length (now out)) × (plan .m < 8) ⌝ }
+    ensures { λ _. ⌜ now (out .exit) ≡ written (sheetBytes q (plan .n) (plan .k) (now (draws .entry)) (plan .from) (plan .stride) (plan .m) (plan .gone) (sheet .counts)) (now (out .entry)) ⌝ }
 {
+    let n = plan.n;
+    let k = plan.k;
+    let m = plan.m;
+    let gone = plan.gone;
+    let from = plan.from;
+    let stride = plan.stride;
     let counts = sheet.counts;
     output::put_two(out, layout::RT);
     output::put_two(&mut out[2..], [m + 1, gone]);

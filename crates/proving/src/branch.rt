@@ -37,19 +37,20 @@ fn false_branch(
     g: Setup,
     page: &[u8],
     inverses: &[u32],
-    n: usize,
-    claim: Claim,
+    plan: Plan,
     l: usize,
-    statements: usize,
     draws: &[u32],
     at: usize,
 ) -> Hasher
-    requires { ⌜ Ready g × (statements < 100) × (4 + 12 * statements ≤ length (now out)) × (at + 1 + statements ≤ length (now draws)) ⌝ }
+    requires { ⌜ Ready g × (plan .statements < 100) × (4 + 12 * plan .statements ≤ length (now out)) × (at + 1 + plan .statements ≤ length (now draws)) ⌝ }
     requires { ⌜ getD (now draws) at 0 < g .group .q ⌝ }
-    requires { ⌜ ((i : ℕ) → i < statements → Within (now page) (now inverses) (parametersOf (g .group)) n claim l i) ⌝ }
-    ensures { λ k. ⌜ Branched (getD (now (draws .entry)) at 0) statements (falseTs (parametersOf (g .group)) (claimOf (now (page .entry)) (parametersOf (g .group)) n claim l) (now (draws .entry)) at) (falseRs (now (draws .entry)) at) (now (out .entry)) (now (out .exit)) h k ⌝ }
+    requires { ⌜ ((i : ℕ) → i < plan .statements → Within (now page) (now inverses) (parametersOf (g .group)) (plan .n) (plan .claim) l i) ⌝ }
+    ensures { λ k. ⌜ Branched (getD (now (draws .entry)) at 0) (plan .statements) (falseTs (parametersOf (g .group)) (claimOf (now (page .entry)) (parametersOf (g .group)) (plan .n) (plan .claim) l) (now (draws .entry)) at) (falseRs (now (draws .entry)) at) (now (out .entry)) (now (out .exit)) h k ⌝ }
 {
     let group = g.group;
+    let n = plan.n;
+    let claim = plan.claim;
+    let statements = plan.statements;
     let e = draws[at];
     output::put_number4(out, e);
     let mut k = h;
@@ -93,15 +94,13 @@ pub fn commit_branch(
     g: Setup,
     page: &[u8],
     inverses: &[u32],
-    n: usize,
-    claim: Claim,
     plan: Plan,
     l: usize,
     draws: &[u32],
 ) -> Hasher
-    requires { ⌜ Ready g × Planned (parametersOf (g .group)) (now page) (now inverses) n claim plan (now draws) ⌝ }
+    requires { ⌜ Ready g × Planned (parametersOf (g .group)) (now page) (now inverses) (plan .n) (plan .claim) plan (now draws) ⌝ }
     requires { ⌜ (l < plan .branches) × (4 + 12 * plan .statements ≤ length (now out)) ⌝ }
-    ensures { λ k. ⌜ Branched (draftChallenge plan (now (draws .entry)) l) (plan .statements) (draftCommitments (parametersOf (g .group)) (claimOf (now (page .entry)) (parametersOf (g .group)) n claim) plan (now (draws .entry)) l) (draftResponses plan (now (draws .entry)) l) (now (out .entry)) (now (out .exit)) h k ⌝ }
+    ensures { λ k. ⌜ Branched (draftChallenge plan (now (draws .entry)) l) (plan .statements) (draftCommitments (parametersOf (g .group)) (claimOf (now (page .entry)) (parametersOf (g .group)) (plan .n) (plan .claim)) plan (now (draws .entry)) l) (draftResponses plan (now (draws .entry)) l) (now (out .entry)) (now (out .exit)) h k ⌝ }
 {
     let group = g.group;
     let at = branch_draws(plan, l);
@@ -110,19 +109,7 @@ pub fn commit_branch(
     if l == known {
         return true_branch(out, h, group, statements, draws, at);
     }
-    false_branch(
-        out,
-        h,
-        g,
-        page,
-        inverses,
-        n,
-        claim,
-        l,
-        statements,
-        draws,
-        at,
-    )
+    false_branch(out, h, g, page, inverses, plan, l, draws, at)
 }
 
 fn response(q: u32, e: Exponent, nonce: Exponent, witness: Exponent) -> Exponent

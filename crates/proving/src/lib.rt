@@ -16,12 +16,14 @@ ghost use Rattle.proving.specs.Plans.{PlanDraws, Planned, Committed, fal
 mod branch;
 mod statement;
 
-// The size of a proof, the branch whose witness is known, and where its draws start.
+// A proof to be made: its size, the branch whose witness is known, where its draws start, and what it claims of matrices of n columns.
 pub struct Plan {
     pub branches: usize,
     pub statements: usize,
     pub known: usize,
     pub from: usize,
+    pub n: usize,
+    pub claim: Claim,
 }
 
 // What the drawn challenges take from the whole one: the sum of their distances to q.
@@ -48,14 +50,12 @@ fn commit(
     g: Setup,
     page: &[u8],
     inverses: &[u32],
-    n: usize,
-    claim: Claim,
     plan: Plan,
     draws: &[u32],
 ) -> Hasher
-    requires { ⌜ Ready g × Planned (parametersOf (g .group)) (now page) (now inverses) n claim plan (now draws) ⌝ }
+    requires { ⌜ Ready g × Planned (parametersOf (g .group)) (now page) (now inverses) (plan .n) (plan .claim) plan (now draws) ⌝ }
     requires { ⌜ plan .branches * (4 + 12 * plan .statements) ≤ length (now out) ⌝ }
-    ensures { λ k. ⌜ Committed (now (label .entry)) (parametersOf (g .group)) (claimOf (now (page .entry)) (parametersOf (g .group)) n claim) plan (now (draws .entry)) (now (out .entry)) (now (out .exit)) k ⌝ }
+    ensures { λ k. ⌜ Committed (now (label .entry)) (parametersOf (g .group)) (claimOf (now (page .entry)) (parametersOf (g .group)) (plan .n) (plan .claim)) plan (now (draws .entry)) (now (out .entry)) (now (out .exit)) k ⌝ }
 {
     let branches = plan.branches;
     let width = 4 + 12 * plan.statements;
@@ -63,18 +63,7 @@ fn commit(
     let mut h = first.update(label);
     for l in 0..branches {
         let place = l * width;
-        let next = branch::commit_branch(
-            &mut out[place..],
-            h,
-            g,
-            page,
-            inverses,
-            n,
-            claim,
-            plan,
-            l,
-            draws,
-        );
+        let next = branch::commit_branch(&mut out[place..], h, g, page, inverses, plan, l, draws);
         h = next;
     }
     h
@@ -88,20 +77,18 @@ pub fn make(
     g: Setup,
     page: &[u8],
     inverses: &[u32],
-    n: usize,
-    claim: Claim,
     plan: Plan,
     witness: [Exponent; 64],
     draws: &[u32],
 )
-    requires { ⌜ Ready g × Planned (parametersOf (g .group)) (now page) (now inverses) n claim plan (now draws) ⌝ }
+    requires { ⌜ Ready g × Planned (parametersOf (g .group)) (now page) (now inverses) (plan .n) (plan .claim) plan (now draws) ⌝ }
     requires { ⌜ (plan .branches * (4 + 12 * plan .statements) ≤ length (now out)) × (plan .statements ≤ 64) ⌝ }
-    ensures { λ _. ⌜ now (out .exit) ≡ written (proofOf (now (label .entry)) (parametersOf (g .group)) (claimOf (now (page .entry)) (parametersOf (g .group)) n claim) plan witness (now (draws .entry))) (now (out .entry)) ⌝ }
+    ensures { λ _. ⌜ now (out .exit) ≡ written (proofOf (now (label .entry)) (parametersOf (g .group)) (claimOf (now (page .entry)) (parametersOf (g .group)) (plan .n) (plan .claim)) plan witness (now (draws .entry))) (now (out .entry)) ⌝ }
 {
     let statements = plan.statements;
     let known = plan.known;
     let q = g.group.q;
-    let h = commit(out, label, g, page, inverses, n, claim, plan, draws);
+    let h = commit(out, label, g, page, inverses, plan, draws);
     let sum = false_complements(q, plan, draws);
     let digest = h.finish();
     let whole = fields::challenge(&digest, q);

@@ -18,14 +18,14 @@ use Rattle.proving.proofs.commit.Statement.{statement}
 use Rattle.proving.proofs.commit.Tie as tie
 
 abbrev Inv-loop : tie.InvT-loop
-Inv-loop out₀ label g page inverses n claim plan draws branches width h₀ l₀ out h l =
+Inv-loop out₀ label g page inverses plan draws branches width h₀ l₀ out h l =
     let G = parametersOf (g .group) in
-    let C = claimOf page G n claim in
+    let C = claimOf page G (plan .n) (plan .claim) in
     (l ≤ plan .branches) × (length out ≡ length out₀) × (out ≡ written (concatBelow l (draftBranch G C plan draws)) out₀)
     × ((m : List ℕ) → Fed h₀ m → Fed h (m ++ concatBelow l (λ l. concatBelow (plan .statements) (draftCommitments G C plan draws l))))
 
 abbrev μ-loop : tie.MeasureT-loop
-μ-loop out₀ label g page inverses n claim plan draws branches width h₀ l₀ out h l = plan .branches - l
+μ-loop out₀ label g page inverses plan draws branches width h₀ l₀ out h l = plan .branches - l
 
 loop-holds : tie.Need-loop-holds Inv-loop μ-loop
 unfolding concatBelow
@@ -48,7 +48,7 @@ loop-again c =
     let l = i .before .loop in
     let f = start i .args in
     let g = parametersOf (f .g .group) in
-    let cl = claimOf (now (f .page)) g (f .n) (f .claim) in
+    let cl = claimOf (now (f .page)) g (f .plan .n) (f .plan .claim) in
     let b = c .before .before .commit-branch .ensures in (
       omega arith,
       search needs,

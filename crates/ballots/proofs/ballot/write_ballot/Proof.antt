@@ -23,33 +23,33 @@ page-of-from-out2 c = page-of-from-out (c .before .before .before .before .befor
 
 write-proofs-requires : tie.Need-write-proofs-requires
 write-proofs-requires c κs =
-    let s = c .before .before .before .before .before .before .before .before .before .before .before .before .before in
+    let s = c .before .before .before .before .before .before .before .before .before .before .before .before .before .before in
     let p = s .pre .0 in
     ((p .0, p .1, p .2, simp (length-take, length-drop) (omega (arith, p .3, c .before .before, c .before .before .before)), omega (arith, (page-of-from-out (c .before .before .before)) .page-of .ensures .0)), (s .pre .1, (page-of-from-out (c .before .before .before)) .page-of .ensures .1))
 
 returns : tie.Need-returns
 returns c =
-    let s = c .before .before .before .before .before .before .before .before .before .before .before .before .before .before .before .before in
+    let s = c .before .before .before .before .before .before .before .before .before .before .before .before .before .before .before .before .before in
     let f = s .args in
     let g = parametersOf (f .g .group) in
-    let list : ℕ → ℕ = λ k. getD (f .list) k 0 in
+    let list : ℕ → ℕ = λ k. getD (f .b .list) k 0 in
     let page = (page-of-from-out2 (c .before)) .page-of in
-    let e = pairs-back (page .result) 0 (f .n) (f .n) (4 + 8 * (f .n * f .n) - 4) (matrixOf g (f .n) list (now (f .draws)) (f .from)) (omega arith) (page .ensures .1) in
-    more _ _ _ _ _ _ (proofs-start (now (f .label)) g (f .n) (f .number) list (now (f .draws)) (f .from) _ e) (c .before .before .before .before .before .before .before .put-front .ensures) (c .before .before .write-proofs .ensures)
-    ∙ ap (λ (x : List ℕ). written x (now (f .out))) (ballot-joined (now (f .label)) g (f .n) (f .number) list (now (f .draws)) (f .from) _ e)
+    let e = pairs-back (page .result) 0 (f .b .n) (f .b .n) (4 + 8 * (f .b .n * f .b .n) - 4) (matrixOf g (f .b .n) list (now (f .draws)) (f .b .from)) (omega arith) (page .ensures .1) in
+    more _ _ _ _ _ _ (proofs-start (now (f .label)) g (f .b .n) (f .b .number) list (now (f .draws)) (f .b .from) _ e) (c .before .before .before .before .before .before .before .put-front .ensures) (c .before .before .write-proofs .ensures)
+    ∙ ap (λ (x : List ℕ). written x (now (f .out))) (ballot-joined (now (f .label)) g (f .b .n) (f .b .number) list (now (f .draws)) (f .b .from) _ e)
 
 pub write-ballot-spec : {M : Type 1} → statement M
 write-ballot-spec =
     tie.close
     (tie.spec
-    (λ c κs. let s = c .before .before .before .before in let p = s .pre .0 in (p .0 .p-pos, p .1, p .2, omega (arith, s .pre .1 .near), omega (arith, s .pre .1 .enough)))
-    (λ c. let s = c .before .before .before .before .before in omega (arith, cells (s .args .n) (s .pre .0 .2)))
-    (λ c. let s = c .before .before .before .before .before in omega (arith, cells (s .args .n) (s .pre .0 .2)))
-    (λ c. let s = c .before .before .before .before .before in omega (arith, cells (s .args .n) (s .pre .0 .2))) (λ c. omega arith)
+    (λ c κs. let s = c .before .before .before .before .before in let p = s .pre .0 in (p .0 .p-pos, p .1, p .2, omega (arith, s .pre .1 .near), omega (arith, s .pre .1 .enough)))
+    (λ c. let s = c .before .before .before .before .before .before in omega (arith, cells (s .args .b .n) (s .pre .0 .2)))
+    (λ c. let s = c .before .before .before .before .before .before in omega (arith, cells (s .args .b .n) (s .pre .0 .2)))
+    (λ c. let s = c .before .before .before .before .before .before in omega (arith, cells (s .args .b .n) (s .pre .0 .2))) (λ c. omega arith)
     (λ c. omega (arith, c .before .before .page-of .ensures .0))
-    (λ c. let s = c .before .before .before .before .before .before .before in omega (arith, cells (s .args .n) (s .pre .0 .2), c .before .before .page-of .ensures .0))
-    (λ c κs. let s = c .before .before .before .before .before .before .before .before in simp (length-take, length-drop) (omega (arith, s .pre .0 .3)))
-    (λ c. omega (arith, c .before .before .before .before .before .before .before .before .before .before .before .pre .0 .3, c, c .before))
-    (λ c. omega (arith, c .before .before .before .before .before .before .before .before .before .before .before .pre .0 .3, c, c .before))
-    (λ c. omega (arith, c .before .before .before .before .before .before .before .before .before .before .before .pre .0 .3, c, c .before))
+    (λ c. let s = c .before .before .before .before .before .before .before .before in omega (arith, cells (s .args .b .n) (s .pre .0 .2), c .before .before .page-of .ensures .0))
+    (λ c κs. let s = c .before .before .before .before .before .before .before .before .before in simp (length-take, length-drop) (omega (arith, s .pre .0 .3)))
+    (λ c. omega (arith, c .before .before .before .before .before .before .before .before .before .before .before .before .pre .0 .3, c, c .before))
+    (λ c. omega (arith, c .before .before .before .before .before .before .before .before .before .before .before .before .pre .0 .3, c, c .before))
+    (λ c. omega (arith, c .before .before .before .before .before .before .before .before .before .before .before .before .pre .0 .3, c, c .before))
     (λ c. search needs) write-proofs-requires (λ c. search needs) returns)

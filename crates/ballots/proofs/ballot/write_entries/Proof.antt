@@ -16,11 +16,12 @@ use Rattle.ballots.proofs.ballot.write_entries.Statement.{statement}
 use Rattle.ballots.proofs.ballot.write_entries.Tie as tie
 
 abbrev Inv-loop : tie.InvT-loop
-Inv-loop out₀ label g n list page draws from count c₀ out c =
-    (c ≤ n * n) × (length out ≡ length out₀) × (out ≡ written (concatBelow c (entryIn label (parametersOf (g .group)) n (λ k. getD list k 0) draws from)) out₀)
+Inv-loop out₀ label g b page draws n count c₀ out c =
+    (c ≤ b .n * b .n) × (length out ≡ length out₀)
+    × (out ≡ written (concatBelow c (entryIn label (parametersOf (g .group)) (b .n) (λ k. getD (b .list) k 0) draws (b .from))) out₀)
 
 abbrev μ-loop : tie.MeasureT-loop
-μ-loop out₀ label g n list page draws from count c₀ out c = n * n - c
+μ-loop out₀ label g b page draws n count c₀ out c = b .n * b .n - c
 
 abbrev start-from-loop : tie.At-loop Inv-loop μ-loop → tie.Start Inv-loop μ-loop
 start-from-loop c = c .before .before .before .before .before
@@ -44,23 +45,23 @@ loop-again c =
     let f = (start-from-slice-known2 c) .args in (
       omega arith,
       search needs,
-      block-more (entryIn (now (f .label)) (parametersOf (f .g .group)) (f .n) (λ k. getD (f .list) k 0) (now (f .draws)) (f .from)) 32 (l .c) _ _ (l .out) _ (λ j h. length-proof _ _ _ _) (mul-comm 32 (l .c)) (l .inv .2) (c .before .before .write-entry .ensures),
+      block-more (entryIn (now (f .label)) (parametersOf (f .g .group)) (f .b .n) (λ k. getD (f .b .list) k 0) (now (f .draws)) (f .b .from)) 32 (l .c) _ _ (l .out) _ (λ j h. length-proof _ _ _ _) (mul-comm 32 (l .c)) (l .inv .2) (c .before .before .write-entry .ensures),
     )
 
 returns : tie.Need-returns Inv-loop μ-loop
 returns c =
     let l = c .before .loop in
     let f = c .before .before .before .before .before .before .args in
-    let e : l .c ≡ f .n * f .n = omega arith in
+    let e : l .c ≡ f .b .n * f .b .n = omega arith in
     l .inv .2 ∙ rw e
 
 pub write-entries-spec : {M : Type 1} → statement M
 write-entries-spec =
     tie.close
-    (tie.spec Inv-loop μ-loop (λ c. let s = c .before .before .before .before in omega (arith, cells (s .args .n) (omega (arith, s .pre .0))))
-    loop-holds (λ c. let s = c .before .before .before .before .before .before in omega (arith, cells (s .args .n) (omega (arith, s .pre .0))))
+    (tie.spec Inv-loop μ-loop (λ c. let s = c .before .before .before .before in omega (arith, cells (s .args .b .n) (omega (arith, s .pre .0))))
+    loop-holds (λ c. let s = c .before .before .before .before .before .before in omega (arith, cells (s .args .b .n) (omega (arith, s .pre .0))))
     (λ c. omega (arith, c .before .before .before .before .before .before .pre .0, c .before .loop .inv .1))
     (λ c. omega (arith, c .before .before .before .before .before .before .pre .0, c .before .loop .inv .1))
     (λ c. omega (arith, c .before .before .before .before .before .before .pre .0, c .before .loop .inv .1)) write-entry-requires
-    (λ c. let s = (start-from-slice-known2 c) in omega (arith, cells (s .args .n) (omega (arith, s .pre .0)), c .before .before .before .before .loop-test .taken))
+    (λ c. let s = (start-from-slice-known2 c) in omega (arith, cells (s .args .b .n) (omega (arith, s .pre .0)), c .before .before .before .before .loop-test .taken))
     (λ c. search needs) loop-again (λ c. search needs) returns)

@@ -5,6 +5,7 @@ use native.Mathlib.Omega.{arith}
 use denote.Ref.{now}
 use Rattle.group.specs.Elements.{parametersOf}
 use Rattle.rules.specs.Claims.{rowClaim, columnClaim}
+use Rattle.statements.specs.declared.claims.Claim.the-variants.{Line}
 use Rattle.statements.specs.Lines.{byLine}
 use Rattle.statements.proofs.Lines.{line-within, line-fits}
 use Rattle.output.specs.Written.{written}
@@ -18,15 +19,15 @@ use Rattle.ballots.proofs.lines.write_line.Tie as tie
 
 -- the line is within the matrix
 fits : (c : tie.After-line-of) →
-    let n = c .before .before .before .before .before .args .n in
+    let n = c .before .before .before .before .before .args .b .n in
     let line = c .line-of .result in
     (line .start + line .stride * (n - 1) < n * n) × (line .start < n * n) × (line .stride ≤ n * n) × (n * n ≤ 64)
 fits c =
     let s = c .before .before .before .before .before in
     let p = s .pre .0 in
-    let w = line-fits (s .args .n) (s .args .t) (p .3) in
+    let w = line-fits (s .args .b .n) (s .args .t) (p .3) in
     rw (c .line-of .ensures .0, c .line-of .ensures .1)
-    (line-within (s .args .n) (s .args .t) (s .args .n - 1) (p .3) (omega (arith, p)), w .0, w .1, cells (s .args .n) (p .2))
+    (line-within (s .args .b .n) (s .args .t) (s .args .b .n - 1) (p .3) (omega (arith, p)), w .0, w .1, cells (s .args .b .n) (p .2))
 
 sum-of-requires : tie.Need-sum-of-requires
 sum-of-requires c κs =
@@ -42,7 +43,7 @@ make-requires c κs =
     let p = s .pre .0 in (
       (
         p .0,
-        planned-line (parametersOf (f .g .group)) (now (f .page)) _ (f .n) _ (now (f .draws)) _ (spread-part (f .g .group .q) (now (f .draws)) (f .from) _ _ 1 (s .pre .1) (omega (arith, p))),
+        planned-line (parametersOf (f .g .group)) (now (f .page)) _ (f .b .n) _ (now (f .draws)) _ (spread-part (f .g .group .q) (now (f .draws)) (f .b .from) _ _ 1 (s .pre .1) (omega (arith, p))),
       ),
       omega (arith, p .4),
     )
@@ -56,15 +57,15 @@ returns c =
     λ M.
     c .before .before .make .ensures
     ∙ ap (λ (w : List ℕ). written w (now (f .out)))
-    (line-is (now (f .label)) g _ (byLine (f .n) (f .t) (rowClaim g (f .n) M) (columnClaim g (f .n) M)) _ (lineSum (now (f .draws)) (f .from) (f .n) (f .t)) (now (f .draws)) _
+    (line-is (f .b .n) (Line 0 (f .t)) (now (f .label)) g _ (byLine (f .b .n) (f .t) (rowClaim g (f .b .n) M) (columnClaim g (f .b .n) M)) _ (lineSum (now (f .draws)) (f .b .from) (f .b .n) (f .t)) (now (f .draws)) _
     (rw (line .ensures .0, line .ensures .1) at (c .before .before .before .before .before .sum-of .ensures)
-    ∙ ap (λ (x : ℕ). x % f .g .group .q) (line-sum (now (f .draws)) (f .from) (f .n) (f .t))))
+    ∙ ap (λ (x : ℕ). x % f .g .group .q) (line-sum (now (f .draws)) (f .b .from) (f .b .n) (f .t))))
 
 pub write-line-spec : {M : Type 1} → statement M
 write-line-spec =
     tie.close
     (tie.spec
-    (λ c κs. let s = c .before .before .before .before in (s .pre .0 .3, omega (arith, cells (s .args .n) (s .pre .0 .2))))
+    (λ c κs. let s = c .before .before .before .before in (s .pre .0 .3, omega (arith, cells (s .args .b .n) (s .pre .0 .2))))
     (λ c. omega (arith, fits (c .before), c .before .before .before .before .before .before .pre .1 .near))
     sum-of-requires
     (λ c. omega (arith, fits (c .before .before)))

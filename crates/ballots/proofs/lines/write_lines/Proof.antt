@@ -16,11 +16,12 @@ use Rattle.ballots.proofs.lines.write_lines.Statement.{statement}
 use Rattle.ballots.proofs.lines.write_lines.Tie as tie
 
 abbrev Inv-loop : tie.InvT-loop
-Inv-loop out₀ label g page n draws from count t₀ out t =
-    (t ≤ n + n) × (length out ≡ length out₀) × ((M : Matrix) → out ≡ written (concatBelow t (lineOf label (parametersOf (g .group)) n M draws from)) out₀)
+Inv-loop out₀ label g page b draws n count t₀ out t =
+    (t ≤ b .n + b .n) × (length out ≡ length out₀)
+    × ((M : Matrix) → out ≡ written (concatBelow t (lineOf label (parametersOf (g .group)) (b .n) M draws (b .from))) out₀)
 
 abbrev μ-loop : tie.MeasureT-loop
-μ-loop out₀ label g page n draws from count t₀ out t = n + n - t
+μ-loop out₀ label g page b draws n count t₀ out t = b .n + b .n - t
 
 abbrev start-from-loop : tie.At-loop Inv-loop μ-loop → tie.Start Inv-loop μ-loop
 start-from-loop c = c .before .before .before .before .before
@@ -44,13 +45,13 @@ loop-again c =
     let f = (start-from-slice-known2 c) .args in (
       omega arith,
       search needs,
-      λ M. block-more (lineOf (now (f .label)) (parametersOf (f .g .group)) (f .n) M (now (f .draws)) (f .from)) 16 (l .t) _ _ (l .out) _ (λ j h. length-line _ _ _ _ _ _ _) (mul-comm 16 (l .t)) (l .inv .2 M) (c .before .before .write-line .ensures M),
+      λ M. block-more (lineOf (now (f .label)) (parametersOf (f .g .group)) (f .b .n) M (now (f .draws)) (f .b .from)) 16 (l .t) _ _ (l .out) _ (λ j h. length-line _ _ _ _ _ _ _) (mul-comm 16 (l .t)) (l .inv .2 M) (c .before .before .write-line .ensures M),
     )
 
 returns : tie.Need-returns Inv-loop μ-loop
 returns c =
     let l = c .before .loop in
-    let n = c .before .before .before .before .before .before .args .n in
+    let n = c .before .before .before .before .before .before .args .b .n in
     let e : l .t ≡ n + n = omega arith in
     λ M. l .inv .2 M ∙ rw e
 

@@ -58,7 +58,7 @@ returns c =
     let e : c .before .before .before .before .before .before .before .still-in .result ≡ list = c .before .before .before .before .before .before .before .still-in .ensures ∙ ap (λ (x : List ℕ). withZeros (remaining x (rankingOf job (f .b)))) (p .1 .first (p .2)) in
     c .before .before .write-ballot .ensures
     ∙ ap (λ (x : List ℕ). written x (now (f .out)))
-    (rw (c .before .before .before .low16 .ensures, here (c .before .before .before .before .before .before), p .2) (ballot-is job g (f .b) (listOf (f .plan .before)) (f .plan .a) _ e))
+    (rw (c .before .before .before .before .low16 .ensures, here (c .before .before .before .before .before .before), p .2) (ballot-is job g (f .b) (listOf (f .plan .before)) (f .plan .a) _ e))
 
 pub write-first-spec : {M : Type 1} → statement M
 write-first-spec =
@@ -69,8 +69,8 @@ write-first-spec =
     (λ c κs. (c .before .before .before .before .before .before .pre .1 .n-high, omega (arith, c .before .before .before .before .before .before .pre .1 .early)))
     (λ c. omega (arith, here c, there c))
     (λ c. omega (arith, here (c .before), there (c .before)))
-    (λ c. omega (arith, c .before .before .before .before .before .before .before .before .before .pre .1 .K-high, c .before .before .before .before .before .before .before .before .before .pre .3))
-    (λ c κs. omega (arith, c .before .before .before .before .before .before .before .before .before .pre .1 .K-high, c .before .before .before .before .before .before .before .before .before .pre .3))
+    (λ c. omega (arith, c .before .before .before .before .before .before .before .before .pre .1 .K-high, c .before .before .before .before .before .before .before .before .pre .3))
+    (λ c κs. omega (arith, c .before .before .before .before .before .before .before .before .pre .1 .K-high, c .before .before .before .before .before .before .before .before .pre .3))
     write-ballot-requires
     (λ c. search needs)
     returns)

@@ -55,7 +55,7 @@ write-sheet-requires c κs =
       omega (arith, s .pre .1 .0, a .low, draws-mono n K (f .m) (suc (f .m)) (omega arith)),
       omega (arith, s .pre .1 .0, r, e, a .drawn .enough),
       simp (length-take, length-drop) (omega (arith, s .pre .1 .1, start (c .before .before .before), c .before .before .before .before, c .before .before .before .before .before)),
-      omega (arith, c .low .ensures, below s),
+      omega (arith, c .before .low .ensures, below s),
     )
 
 returns : tie.Need-returns
@@ -67,7 +67,7 @@ returns c =
     let w = t .plan-of .ensures in
     let l = c .before .before .before .before .before .before in
     round-joined sha256 (jobAt s) g (f .count .gone .order) (f .m) (l .record-length .result) (f .from) _ _ (now (f .out)) _ _ _ _ (l .record-length .ensures .0) (s .pre .1 .0)
-    (c .before .before .before .before .before .record-draws .ensures .0) (c .before .before .before .low .ensures) (records-are (jobAt s) (f .count .gone .order) (f .m) _ (s .pre .0 .1) w sha256 g)
+    (c .before .before .before .before .before .record-draws .ensures .0) (c .before .before .before .before .low .ensures) (records-are (jobAt s) (f .count .gone .order) (f .m) _ (s .pre .0 .1) w sha256 g)
     (l .before .before .before .write-records .ensures) (s .pre .0 .2 _ (f .m) (s .pre .0 .3)) (c .before .before .write-sheet .ensures)
 
 -- the sheet's part of the output
@@ -81,9 +81,9 @@ write-round-spec =
     (λ c κs. let s = c .before .before .before .before .before .before .before .before in (below s .0, below s .1, s .pre .0 .1 .K-high, s .pre .1 .0))
     write-records-requires (λ c κs. below (entry (c .before .before .before .before)))
     (λ c. omega (arith, start c, entry (c .before .before .before .before .before) .pre .1 .1, entry (c .before .before .before .before .before) .good))
-    (λ c κs. below (entry (c .before .before .before .before .before))) (λ c. omega (arith, part c, c .before .before, c .before .before .before))
-    (λ c. omega (arith, part c, c .before .before, c .before .before .before))
-    (λ c. omega (arith, part c, c .before .before, c .before .before .before))
-    (λ c κs. omega (arith, below (entry (c .before .before .before .before .before .before .before))))
-    (λ c. omega (arith, below (entry (c .before .before .before .before .before .before .before .before)), entry (c .before .before .before .before .before .before .before .before) .good))
-    write-sheet-requires (λ c. search needs) returns)
+    (λ c κs. below (entry (c .before .before .before .before .before)))
+    (λ c κs. omega (arith, below (entry (c .before .before .before .before .before .before))))
+    (λ c. omega (arith, below (entry (c .before .before .before .before .before .before .before)), entry (c .before .before .before .before .before .before .before) .good))
+    (λ c. omega (arith, part (c .before), c .before .before .before, c .before .before .before .before))
+    (λ c. omega (arith, part (c .before), c .before .before .before, c .before .before .before .before))
+    (λ c. omega (arith, part (c .before), c .before .before .before, c .before .before .before .before)) write-sheet-requires (λ c. search needs) returns)

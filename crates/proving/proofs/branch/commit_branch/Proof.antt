@@ -22,7 +22,7 @@ returns c =
     let w = c .before .before in
     let f = w .before .before .before .before .before .before .before .before .before .args in
     let g = parametersOf (f .g .group) in
-    held-true g (claimOf (now (f .page)) g (f .n) (f .claim)) (f .plan) (now (f .draws)) (f .l) _ _ _ _ _ _
+    held-true g (claimOf (now (f .page)) g (f .plan .n) (f .plan .claim)) (f .plan) (now (f .draws)) (f .l) _ _ _ _ _ _
     (w .before .before .before .branch-draws .ensures) (w .before .before .if1 .taken) (w .true-branch .ensures)
 
 false-branch-requires : tie.Need-false-branch-requires
@@ -41,7 +41,7 @@ returns-2 c =
     let w = c .before .before in
     let f = w .before .before .before .before .before .before .before .before .before .args in
     let g = parametersOf (f .g .group) in
-    held-false g (claimOf (now (f .page)) g (f .n) (f .claim)) (f .plan) (now (f .draws)) (f .l) _ _ _ _ _ _
+    held-false g (claimOf (now (f .page)) g (f .plan .n) (f .plan .claim)) (f .plan) (now (f .draws)) (f .l) _ _ _ _ _ _
     (w .before .before .before .branch-draws .ensures) (w .before .before .if1 .left) (w .false-branch .ensures)
 
 pub commit-branch-spec : {M : Type 1} → statement M
