@@ -1,4 +1,4 @@
-// The box's library: check and write for programs in C, with numbers and slices alone. include/gooseoften.h declares both.
+// The box's library: check and write for programs in C, with numbers, slices and arrays of fixed length alone. include/gooseoften.h declares both.
 use group::Element;
 use writer::Job;
 ghost use mathlib.Core.Path.{_≡_};
