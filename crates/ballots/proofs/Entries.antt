@@ -9,10 +9,11 @@ use Rattle.sha256.specs.Message.{sha256}
 use Rattle.group.specs.Elements.{Parameters}
 use Rattle.group.specs.declared.Exponent.{Exponent}
 use Rattle.rules.specs.Proofs.{Statement}
-use Rattle.rules.specs.Claims.{Matrix, matrixAt}
+use Rattle.rules.specs.Claims.{Matrix, matrixAt, entryClaim}
 use Rattle.statements.specs.declared.claims.Claim.{Claim}
 use Rattle.statements.specs.declared.claims.Claim.the-variants.{Entry}
 use Rattle.statements.specs.Claims.{claimOf, Within}
+use Rattle.statements.proofs.Places.{entry-claimed}
 use Rattle.jobs.proofs.Matrices.{SameMatrix, entry-same}
 use Rattle.proving.specs.declared.Plan.{Plan}
 use Rattle.proving.specs.Plans.{DrawsBelow, PlanDraws, Planned, witnessAt, proofOf}
@@ -26,11 +27,11 @@ pub spread-part : (q : ℕ) (draws : List ℕ) (from total at count : ℕ) → D
 spread-part q draws from total at count s h =
     record { positive = s .positive; low = s .low; near = omega (arith, s .near); enough = omega (arith, s .enough); below = λ d k. s .below d (omega arith) }
 
-abbrev pub planOf : (n : ℕ) → Claim → (b s v from : ℕ) → Plan
-planOf n claim b s v from = record { branches = b; statements = s; known = v; from = from; n = n; claim = claim }
+abbrev pub planOf : Claim → (b s v from : ℕ) → Plan
+planOf claim b s v from = record { branches = b; statements = s; known = v; from = from; claim = claim }
 
-pub drawn-of : {n : ℕ} {claim : Claim} (q : ℕ) (draws : List ℕ) (b s v from count : ℕ) → DrawsBelow q draws from count → b * (1 + s) ≡ count + 1 → b ≤ 8 → v < b → s < 100 →
-    PlanDraws q (planOf n claim b s v from) draws
+pub drawn-of : {claim : Claim} (q : ℕ) (draws : List ℕ) (b s v from count : ℕ) → DrawsBelow q draws from count → b * (1 + s) ≡ count + 1 → b ≤ 8 → v < b → s < 100 →
+    PlanDraws q (planOf claim b s v from) draws
 drawn-of q draws b s v from count w e few inside small =
     record {
       positive = w .positive;
@@ -44,16 +45,16 @@ drawn-of q draws b s v from count w e few inside small =
     }
 
 -- a proof of one statement claims nothing outside the known branch
-pub planned-line : (g : Parameters) (page inverses : List ℕ) (n : ℕ) (claim : Claim) (draws : List ℕ) (from : ℕ) → DrawsBelow (g .q) draws from 1 →
-    Planned g page inverses n claim (planOf n claim 1 1 0 from) draws
-planned-line g page inverses n claim draws from w =
+pub planned-line : (g : Parameters) (page inverses : List ℕ) (claim : Claim) (draws : List ℕ) (from : ℕ) → DrawsBelow (g .q) draws from 1 →
+    Planned g page inverses (planOf claim 1 1 0 from) draws
+planned-line g page inverses claim draws from w =
     record { drawn = drawn-of (g .q) draws 1 1 0 from 1 w refl (omega arith) (omega arith) (omega arith); ready = λ l i h k m. absurd (m (omega arith)) }
 
-pub planned-entry : (g : Parameters) (page inverses : List ℕ) (n i j : ℕ) (draws : List ℕ) (v from : ℕ) → v < 2 → i < n → j < n → 4 + 8 * (n * n) ≤ length page →
-    DrawsBelow (g .q) draws from 3 → Planned g page inverses n (Entry 0 i j) (planOf n (Entry 0 i j) 2 1 v from) draws
+pub planned-entry : (g : Parameters) (page inverses : List ℕ) (at : ℕ) (draws : List ℕ) (v from : ℕ) → v < 2 → at + 8 ≤ length page →
+    DrawsBelow (g .q) draws from 3 → Planned g page inverses (planOf (Entry at) 2 1 v from) draws
 unfolding Within
-planned-entry g page inverses n i j draws v from hv hi hj long w =
-    record { drawn = drawn-of (g .q) draws 2 1 v from 3 w refl (omega arith) hv (omega arith); ready = λ l k h m e. (hi, hj, omega arith) }
+planned-entry g page inverses at draws v from hv long w =
+    record { drawn = drawn-of (g .q) draws 2 1 v from 3 w refl (omega arith) hv (omega arith); ready = λ l k h m e. long }
 
 -- the witness of the one statement stands in every place
 abbrev pub alone : Exponent → List Exponent
@@ -63,20 +64,22 @@ one : (x : Exponent) (i : ℕ) → i < 1 → witnessAt (alone x) i ≡ x .0
 one x zero h = refl
 one x (suc i) h = absurd (omega arith)
 
-pub line-is : (n : ℕ) (about : Claim) (label : List ℕ) (g : Parameters) (claim : ℕ → ℕ → Statement) (said : Statement) (w : Exponent) (x : ℕ) (draws : List ℕ) (from : ℕ) → w .0 ≡ x % g .q →
-    proofOf label g claim (planOf n about 1 1 0 from) (alone w) draws ≡ proofBytes g (lineProver draws said x from) sha256 label
-line-is n about label g claim said w x draws from e =
+pub line-is : (about : Claim) (label : List ℕ) (g : Parameters) (claim : ℕ → ℕ → Statement) (said : Statement) (w : Exponent) (x : ℕ) (draws : List ℕ) (from : ℕ) → w .0 ≡ x % g .q →
+    proofOf label g claim (record { plan = planOf about 1 1 0 from; witness = alone w }) draws ≡ proofBytes g (lineProver draws said x from) sha256 label
+line-is about label g claim said w x draws from e =
     proof-same sha256 label g (λ d. getD draws d 0) 1 1 0 from claim (λ _ _. said) _ _ (λ l i h k n. absurd (n (omega arith)))
     (λ i h. ap (λ (a : ℕ). a % g .q) (one w i h ∙ e) ∙ mod-mod x (g .q))
 
 pub entry-is : (label : List ℕ) (g : Parameters) (n : ℕ) (list : ℕ → ℕ) (page draws : List ℕ) (from c v : ℕ) (x : Exponent) → 0 < n → c < n * n →
     SameMatrix n n (matrixAt page n 0) (matrixOf g n list draws from) → v ≡ opened list (c / n) (c % n) → x .0 ≡ getD draws (from + c) 0 →
-    proofOf label g (claimOf page g n (Entry 0 (c / n) (c % n))) (planOf n (Entry 0 (c / n) (c % n)) 2 1 v (from + n * n + 3 * c)) (alone x) draws ≡ entryIn label g n list draws from c
-unfolding claimOf
+    proofOf label g (claimOf page g (Entry (4 + 8 * c))) (record { plan = planOf (Entry (4 + 8 * c)) 2 1 v (from + n * n + 3 * c); witness = alone x }) draws ≡ entryIn label g n list draws from c
 entry-is label g n list page draws from c v x some low same ev ex =
+    let here : claimOf page g (Entry (4 + 8 * c)) ≡ (λ l _. entryClaim g (matrixAt page n 0 .b (c / n) (c % n)) (matrixAt page n 0 .y (c / n) (c % n)) l) =
+    rw (div-add-mod' c n) at (entry-claimed page g n 0 (c / n) (c % n)) in
     rw (div-add-mod' c n, ← ev, ← ex)
     (proof-same sha256 label g (λ d. getD draws d 0) 2 1 v (from + n * n + 3 * c) _ _ _ _
-    (λ l i h k m. entry-same g n _ _ n (c / n) (c % n) l same (div-lt-iff-lt-mul some .1 low) (mod-lt c some)) (λ i h. ap (λ (a : ℕ). a % g .q) (one x i h)))
+    (λ l i h k m. ap (λ (f : ℕ → ℕ → Statement). f l i) here ∙ entry-same g n _ _ n (c / n) (c % n) l same (div-lt-iff-lt-mul some .1 low) (mod-lt c some))
+    (λ i h. ap (λ (a : ℕ). a % g .q) (one x i h)))
 
 pub length-line : (label : List ℕ) (g : Parameters) (n : ℕ) (M : Matrix) (draws : List ℕ) (from t : ℕ) → length (lineOf label g n M draws from t) ≡ 16
 unfolding lineOf

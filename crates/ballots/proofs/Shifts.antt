@@ -31,7 +31,7 @@ module _ (g : Parameters) (s : Shift) (draws : List ℕ) (w : Shifting (g .p) (g
   cells-few = few-pairs (s .rows + 1) (s .n) (omega (arith, w)) (omega (arith, w))
 
   pub planned-shift : (page inverses : List ℕ) → 1028 ≤ length page → InverseTable page (g .p) (g .q) 0 (2 * ((s .rows + 1) * s .n)) inverses →
-      Planned g page inverses (s .n) (Shifted 0 512 (s .rows) (s .column)) (planOf (s .n) (Shifted 0 512 (s .rows) (s .column)) (s .rows + 1) (2 + s .rows * s .n) (s .struck) (s .new + s .rows * s .n)) draws
+      Planned g page inverses (planOf (Shifted 0 512 (s .rows) (s .n) (s .column)) (s .rows + 1) (2 + s .rows * s .n) (s .struck) (s .new + s .rows * s .n)) draws
   unfolding Within
   planned-shift page inverses long t =
       record {
@@ -61,7 +61,7 @@ module _ (g : Parameters) (s : Shift) (draws : List ℕ) (w : Shifting (g .p) (g
   pub shift-proof-is : (label page : List ℕ) (t : List Exponent) → SameMatrix (s .rows + 1) (s .n) (matrixAt page (s .n) 0) (oldMatrix g s draws) →
       SameMatrix (s .rows) (s .n) (matrixAt page (s .n) 512) (newMatrix g s draws) →
       Witnessed (g .q) (s .n) draws (s .old) (s .new) (s .column) (s .struck) (2 + s .rows * s .n) t →
-      proofOf label g (claimOf page g (s .n) (Shifted 0 512 (s .rows) (s .column))) (planOf (s .n) (Shifted 0 512 (s .rows) (s .column)) (s .rows + 1) (2 + s .rows * s .n) (s .struck) (s .new + s .rows * s .n)) t draws ≡ shiftProofOf label g s draws
+      proofOf label g (claimOf page g (Shifted 0 512 (s .rows) (s .n) (s .column))) (record { plan = planOf (Shifted 0 512 (s .rows) (s .n) (s .column)) (s .rows + 1) (2 + s .rows * s .n) (s .struck) (s .new + s .rows * s .n); witness = t }) draws ≡ shiftProofOf label g s draws
   unfolding claimOf
   shift-proof-is label page t fo fn ft =
       proof-same sha256 label g (λ d. getD draws d 0) (s .rows + 1) (2 + s .rows * s .n) (s .struck) (s .new + s .rows * s .n) _ _ _ _

@@ -3,11 +3,14 @@ use crate::lines;
 use crate::pairs;
 use group::Exponent;
 use group::Group;
+use proving::Maker;
 use proving::Plan;
+use sha256::Hasher;
 use statements::Setup;
 use statements::claims::Claim;
 ghost use mathlib.Core.Path.{_≡_};
-ghost use Prim.Native.Nat.{_+_, _*_, _^_, _≤_, _<_};
+ghost use Prim.Native.Nat.{ℕ, _+_, _*_, _^_, _≤_, _<_};
+ghost use mathlib.Core.List.{List};
 ghost use lib.ListN.{length, getD};
 ghost use Rattle.numbers.specs.Below.{concatBelow};
 ghost use Rattle.group.specs.Elements.{parametersOf};
@@ -15,6 +18,7 @@ ghost use Rattle.statements.specs.Values.{Ready};
 ghost use Rattle.output.specs.Written.{written};
 ghost use Rattle.proving.specs.Plans.{DrawsBelow};
 ghost use Rattle.jobs.specs.Records.{matrixOf, ballotProofBytes, ballotBytes};
+ghost use Rattle.sha256.specs.Feed.{Fed};
 ghost use Rattle.sha256.specs.Message.{sha256};
 ghost use Rattle.ballots.specs.Parts.{Paged, entryIn};
 
@@ -39,7 +43,7 @@ fn page_of(g: Group, n: usize, list: [u8; 8], draws: &[u32], from: usize) -> [u8
 // The entry proof of the c-th pair.
 fn write_entry(
     out: &mut [u8],
-    label: &[u8],
+    prefix: Hasher,
     g: Setup,
     b: Ballot,
     page: &[u8],
@@ -49,58 +53,54 @@ fn write_entry(
     requires { ⌜ Ready g × (0 < b .n) × (b .n ≤ 8) × (c < b .n * b .n) × (32 ≤ length (now out)) × (516 ≤ length (now page)) ⌝ }
     requires { ⌜ DrawsBelow (g .group .q) (now draws) (b .from) (4 * (b .n * b .n) + 2 * b .n) ⌝ }
     requires { ⌜ Paged (now page) 0 (b .n) (b .n) (matrixOf (parametersOf (g .group)) (b .n) (λ k. getD (b .list) k 0) (now draws) (b .from)) ⌝ }
-    ensures { λ _. ⌜ now (out .exit) ≡ written (entryIn (now (label .entry)) (parametersOf (g .group)) (b .n) (λ k. getD (b .list) k 0) (now (draws .entry)) (b .from) c) (now (out .entry)) ⌝ }
+    ensures { λ _. ⌜ ((m : List ℕ) → Fed prefix m → now (out .exit) ≡ written (entryIn m (parametersOf (g .group)) (b .n) (λ k. getD (b .list) k 0) (now (draws .entry)) (b .from) c) (now (out .entry))) ⌝ }
 {
     let n = b.n;
     let list = b.list;
     let from = b.from;
     let at = from + c;
     let v = pairs::opened(list, c / n, c % n);
-    let claim = Claim::Entry {
-        at: 0,
-        i: c / n,
-        j: c % n,
-    };
+    let claim = Claim::Entry { at: 4 + 8 * c };
     let plan = Plan {
         branches: 2,
         statements: 1,
         known: v as usize,
         from: from + n * n + 3 * c,
-        n,
         claim,
     };
     // the witness of the one statement, in every place
-    let w = [Exponent(draws[at]); 64];
+    let witness = [Exponent(draws[at]); 64];
+    let maker = Maker { plan, witness };
     let no_inverses = [0u32; 0];
-    proving::make(out, label, g, page, &no_inverses, plan, w, draws);
+    proving::make(out, prefix, g, page, &no_inverses, maker, draws);
 }
 
-fn write_entries(out: &mut [u8], label: &[u8], g: Setup, b: Ballot, page: &[u8], draws: &[u32])
+fn write_entries(out: &mut [u8], prefix: Hasher, g: Setup, b: Ballot, page: &[u8], draws: &[u32])
     requires { ⌜ Ready g × (0 < b .n) × (b .n ≤ 8) × (32 * (b .n * b .n) ≤ length (now out)) × (516 ≤ length (now page)) ⌝ }
     requires { ⌜ DrawsBelow (g .group .q) (now draws) (b .from) (4 * (b .n * b .n) + 2 * b .n) ⌝ }
     requires { ⌜ Paged (now page) 0 (b .n) (b .n) (matrixOf (parametersOf (g .group)) (b .n) (λ k. getD (b .list) k 0) (now draws) (b .from)) ⌝ }
-    ensures { λ _. ⌜ now (out .exit) ≡ written (concatBelow (b .n * b .n) (entryIn (now (label .entry)) (parametersOf (g .group)) (b .n) (λ k. getD (b .list) k 0) (now (draws .entry)) (b .from))) (now (out .entry)) ⌝ }
+    ensures { λ _. ⌜ ((m : List ℕ) → Fed prefix m → now (out .exit) ≡ written (concatBelow (b .n * b .n) (entryIn m (parametersOf (g .group)) (b .n) (λ k. getD (b .list) k 0) (now (draws .entry)) (b .from))) (now (out .entry))) ⌝ }
 {
     let n = b.n;
     let count = n * n;
     for c in 0..count {
         let at = 32 * c;
-        write_entry(&mut out[at..], label, g, b, page, draws, c);
+        write_entry(&mut out[at..], prefix, g, b, page, draws, c);
     }
 }
 
 // The proofs of a ballot: of its entries, its rows and its columns.
-fn write_proofs(out: &mut [u8], label: &[u8], g: Setup, b: Ballot, page: &[u8], draws: &[u32])
+fn write_proofs(out: &mut [u8], prefix: Hasher, g: Setup, b: Ballot, page: &[u8], draws: &[u32])
     requires { ⌜ Ready g × (0 < b .n) × (b .n ≤ 8) × (32 * (b .n * b .n) + 32 * b .n ≤ length (now out)) × (516 ≤ length (now page)) ⌝ }
     requires { ⌜ DrawsBelow (g .group .q) (now draws) (b .from) (4 * (b .n * b .n) + 2 * b .n) ⌝ }
     requires { ⌜ Paged (now page) 0 (b .n) (b .n) (matrixOf (parametersOf (g .group)) (b .n) (λ k. getD (b .list) k 0) (now draws) (b .from)) ⌝ }
-    ensures { λ _. ⌜ now (out .exit) ≡ written (ballotProofBytes sha256 (now (label .entry)) (parametersOf (g .group)) (b .n) (λ k. getD (b .list) k 0) (now (draws .entry)) (b .from)) (now (out .entry)) ⌝ }
+    ensures { λ _. ⌜ ((m : List ℕ) → Fed prefix m → now (out .exit) ≡ written (ballotProofBytes sha256 m (parametersOf (g .group)) (b .n) (λ k. getD (b .list) k 0) (now (draws .entry)) (b .from)) (now (out .entry))) ⌝ }
 {
     let n = b.n;
     let count = n * n;
-    write_entries(out, label, g, b, page, draws);
+    write_entries(out, prefix, g, b, page, draws);
     let lines = 32 * count;
-    lines::write_lines(&mut out[lines..], label, g, page, b, draws);
+    lines::write_lines(&mut out[lines..], prefix, g, page, b, draws);
 }
 
 pub fn write_ballot(out: &mut [u8], label: &[u8], g: Setup, b: Ballot, draws: &[u32])
@@ -114,5 +114,6 @@ pub fn write_ballot(out: &mut [u8], label: &[u8], g: Setup, b: Ballot, draws: &[
     let page = page_of(group, n, list, draws, b.from);
     let proofs = 4 + 8 * (n * n);
     pairs::put_front(out, layout::BA, b.number, &page[4..proofs]);
-    write_proofs(&mut out[proofs..], label, g, b, &page, draws);
+    let prefix = Hasher::new().update(label);
+    write_proofs(&mut out[proofs..], prefix, g, b, &page, draws);
 }

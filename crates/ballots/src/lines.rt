@@ -1,14 +1,18 @@
 // The proofs of a ballot's rows and columns: the sum of the line's secrets is its witness.
 use crate::ballot::Ballot;
 use crate::sums;
+use proving::Maker;
 use proving::Plan;
+use sha256::Hasher;
 use statements::Setup;
 use statements::claims;
 use statements::claims::Claim;
 ghost use mathlib.Core.Path.{_≡_};
-ghost use Prim.Native.Nat.{_+_, _*_, _≤_, _<_};
+ghost use Prim.Native.Nat.{ℕ, _+_, _*_, _≤_, _<_};
+ghost use mathlib.Core.List.{List};
 ghost use lib.ListN.{length};
 ghost use Rattle.numbers.specs.Below.{concatBelow};
+ghost use Rattle.sha256.specs.Feed.{Fed};
 ghost use Rattle.group.specs.Elements.{parametersOf};
 ghost use Rattle.rules.specs.Claims.{Matrix};
 ghost use Rattle.statements.specs.Values.{Ready};
@@ -19,7 +23,7 @@ ghost use Rattle.ballots.specs.Parts.{lineOf};
 // A proof of one statement alone is made from its witness, whatever the statement is.
 fn write_line(
     out: &mut [u8],
-    label: &[u8],
+    prefix: Hasher,
     g: Setup,
     page: &[u8],
     b: Ballot,
@@ -28,7 +32,7 @@ fn write_line(
 )
     requires { ⌜ Ready g × (0 < b .n) × (b .n ≤ 8) × (t < b .n + b .n) × (16 ≤ length (now out)) ⌝ }
     requires { ⌜ DrawsBelow (g .group .q) (now draws) (b .from) (4 * (b .n * b .n) + 2 * b .n) ⌝ }
-    ensures { λ _. ⌜ ((M : Matrix) → now (out .exit) ≡ written (lineOf (now (label .entry)) (parametersOf (g .group)) (b .n) M (now (draws .entry)) (b .from) t) (now (out .entry))) ⌝ }
+    ensures { λ _. ⌜ ((m : List ℕ) → Fed prefix m → (M : Matrix) → now (out .exit) ≡ written (lineOf m (parametersOf (g .group)) (b .n) M (now (draws .entry)) (b .from) t) (now (out .entry))) ⌝ }
 {
     let n = b.n;
     let from = b.from;
@@ -36,29 +40,33 @@ fn write_line(
     let first = from + line.start;
     let sum = sums::sum_of(g.group.q, draws, first, line.stride, n, n);
     // the witness of the one statement, in every place
-    let w = [sum; 64];
+    let witness = [sum; 64];
     let no_inverses = [0u32; 0];
-    let claim = Claim::Line { at: 0, t };
+    let claim = Claim::Line {
+        at: 4 + 8 * line.start,
+        stride: 8 * line.stride,
+        count: n,
+    };
     let plan = Plan {
         branches: 1,
         statements: 1,
         known: 0,
         from: from + 4 * (n * n) + t,
-        n,
         claim,
     };
-    proving::make(out, label, g, page, &no_inverses, plan, w, draws);
+    let maker = Maker { plan, witness };
+    proving::make(out, prefix, g, page, &no_inverses, maker, draws);
 }
 
-pub fn write_lines(out: &mut [u8], label: &[u8], g: Setup, page: &[u8], b: Ballot, draws: &[u32])
+pub fn write_lines(out: &mut [u8], prefix: Hasher, g: Setup, page: &[u8], b: Ballot, draws: &[u32])
     requires { ⌜ Ready g × (0 < b .n) × (b .n ≤ 8) × (32 * b .n ≤ length (now out)) ⌝ }
     requires { ⌜ DrawsBelow (g .group .q) (now draws) (b .from) (4 * (b .n * b .n) + 2 * b .n) ⌝ }
-    ensures { λ _. ⌜ ((M : Matrix) → now (out .exit) ≡ written (concatBelow (b .n + b .n) (lineOf (now (label .entry)) (parametersOf (g .group)) (b .n) M (now (draws .entry)) (b .from))) (now (out .entry))) ⌝ }
+    ensures { λ _. ⌜ ((m : List ℕ) → Fed prefix m → (M : Matrix) → now (out .exit) ≡ written (concatBelow (b .n + b .n) (lineOf m (parametersOf (g .group)) (b .n) M (now (draws .entry)) (b .from))) (now (out .entry))) ⌝ }
 {
     let n = b.n;
     let count = n + n;
     for t in 0..count {
         let at = 16 * t;
-        write_line(&mut out[at..], label, g, page, b, draws, t);
+        write_line(&mut out[at..], prefix, g, page, b, draws, t);
     }
 }

@@ -2,13 +2,17 @@
 use crate::pairs;
 use crate::sums;
 use group::Group;
+use proving::Maker;
 use proving::Plan;
+use sha256::Hasher;
 use statements::Setup;
 use statements::claims;
 use statements::claims::Claim;
 ghost use mathlib.Core.Path.{_≡_};
-ghost use Prim.Native.Nat.{_+_, _*_, _≤_};
+ghost use Prim.Native.Nat.{ℕ, _+_, _*_, _≤_};
+ghost use mathlib.Core.List.{List};
 ghost use lib.ListN.{length};
+ghost use Rattle.sha256.specs.Feed.{Fed};
 ghost use Rattle.group.specs.Elements.{parametersOf};
 ghost use Rattle.statements.specs.Values.{Ready};
 ghost use Rattle.output.specs.Written.{written};
@@ -42,22 +46,23 @@ fn pages_of(g: Group, s: Shift, draws: &[u32]) -> [u8; 1028]
     page
 }
 
-fn write_shift_proof(out: &mut [u8], label: &[u8], g: Setup, s: Shift, page: &[u8], draws: &[u32])
+fn write_shift_proof(out: &mut [u8], prefix: Hasher, g: Setup, s: Shift, page: &[u8], draws: &[u32])
     requires { ⌜ Ready g × Shifting (g .group .p) (g .group .q) s (now draws) × ((s .rows + 1) * (28 + 12 * (s .rows * s .n)) ≤ length (now out)) × (1028 ≤ length (now page)) ⌝ }
     requires { ⌜ Paged (now page) 0 (s .rows + 1) (s .n) (oldMatrix (parametersOf (g .group)) s (now draws)) × Paged (now page) 512 (s .rows) (s .n) (newMatrix (parametersOf (g .group)) s (now draws)) ⌝ }
-    ensures { λ _. ⌜ now (out .exit) ≡ written (shiftProofOf (now (label .entry)) (parametersOf (g .group)) s (now (draws .entry))) (now (out .entry)) ⌝ }
+    ensures { λ _. ⌜ ((m : List ℕ) → Fed prefix m → now (out .exit) ≡ written (shiftProofOf m (parametersOf (g .group)) s (now (draws .entry))) (now (out .entry))) ⌝ }
 {
     let n = s.n;
     let rows = s.rows;
     let a = s.column;
     let p = g.group.p;
     let q = g.group.q;
-    let w = sums::witnesses(q, s, draws);
+    let witness = sums::witnesses(q, s, draws);
     let inverses = claims::inverse_table(page, p, q, 0, 2 * ((rows + 1) * n));
     let claim = Claim::Shift {
         before: 0,
         new: 512,
         rows,
+        n,
         a,
     };
     let plan = Plan {
@@ -65,10 +70,10 @@ fn write_shift_proof(out: &mut [u8], label: &[u8], g: Setup, s: Shift, page: &[u
         statements: 2 + rows * n,
         known: s.struck,
         from: s.new + rows * n,
-        n,
         claim,
     };
-    proving::make(out, label, g, page, &inverses, plan, w, draws);
+    let maker = Maker { plan, witness };
+    proving::make(out, prefix, g, page, &inverses, maker, draws);
 }
 
 pub fn write_shift(out: &mut [u8], label: &[u8], g: Setup, s: Shift, draws: &[u32])
@@ -81,6 +86,7 @@ pub fn write_shift(out: &mut [u8], label: &[u8], g: Setup, s: Shift, draws: &[u3
     let page = pages_of(group, s, draws);
     let end = 516 + 8 * count;
     pairs::put_front(out, layout::SH, s.number, &page[516..end]);
+    let prefix = Hasher::new().update(label);
     let at = 4 + 8 * count;
-    write_shift_proof(&mut out[at..], label, g, s, &page, draws);
+    write_shift_proof(&mut out[at..], prefix, g, s, &page, draws);
 }

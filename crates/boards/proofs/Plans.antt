@@ -30,11 +30,17 @@ place-is a size n p list l ep el es en = ep ∙ rw (el, es, front-of l n en)
 rows-are : (job : Job) (gone : List ℕ) (k : ℕ) (list : List ℕ) → list ≡ withZeros (remaining gone (rankingOf job k)) → (λ (i : ℕ). getD list i 0) ≡ rowsOf job gone k
 rows-are job gone k list e = fun-ext (λ i. ap (λ (l : List ℕ). getD l i 0) e ∙ padded-at (remaining gone (rankingOf job k)) i)
 
-pub ballot-is : (job : Job) (g : Parameters) (k : ℕ) (before : List ℕ) (a : ℕ) (list : List ℕ) → list ≡ withZeros (remaining [] (rankingOf job k)) →
-    ballotBytes sha256 (job .label) g (job .n) (k + 1) (λ i. getD list i 0) (job .draws) (drawsAt (job .n) (job .K) 0 k) ≡ recordBytes sha256 job g before a 0 k
+-- where a record's draws start, from where its round's do
+pub starts-at : (n K m k from each : ℕ) → from ≡ roundDraws n K m → each ≡ recordDraws n m → from + k * each ≡ drawsAt n K m k
+starts-at n K m k from each ef ee = rw (ef, ee)
+
+pub ballot-is : (job : Job) (g : Parameters) (k m number from : ℕ) (before gone : List ℕ) (a : ℕ) (list : List ℕ) → m ≡ 0 → number ≡ k + 1 →
+    from ≡ drawsAt (job .n) (job .K) 0 k → gone ≡ [] → list ≡ withZeros (remaining gone (rankingOf job k)) →
+    ballotBytes sha256 (job .label) g (job .n) number (λ i. getD list i 0) (job .draws) from ≡ recordBytes sha256 job g before a m k
 unfolding recordBytes
-ballot-is job g k before a list e =
-    ap (λ (f : ℕ → ℕ). ballotBytes sha256 (job .label) g (job .n) (k + 1) f (job .draws) (drawsAt (job .n) (job .K) 0 k)) (rows-are job [] k list e)
+ballot-is job g k m number from before gone a list em en ef eg e =
+    rw (em, en, ef)
+    (ap (λ (f : ℕ → ℕ). ballotBytes sha256 (job .label) g (job .n) (k + 1) f (job .draws) (drawsAt (job .n) (job .K) 0 k)) (rows-are job [] k list (rw eg at e)))
 
 module _ (job : Job) (g : Parameters) (k j : ℕ) (before : List ℕ) (a : ℕ) (s : Shift)
     (en : s .n ≡ job .n) (er : s .rows ≡ job .n - suc j) (enu : s .number ≡ k + 1)

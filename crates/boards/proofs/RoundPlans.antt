@@ -11,10 +11,10 @@ use lib.Seq.{getD-take}
 use Rattle.numbers.specs.Below.{concatBelow}
 use Rattle.numbers.proofs.Blocks.{length-blocks}
 use Rattle.group.specs.Elements.{Parameters}
-use Rattle.rules.specs.Records.{recordLength, sheetLength, roundAt}
+use Rattle.rules.specs.Records.{recordLength, sheetLength}
 use Rattle.rules.specs.Count.{countsOf, table}
 use Rattle.jobs.specs.Job as J
-use Rattle.jobs.specs.Job.{rankingOf, recordDraws, roundDraws}
+use Rattle.jobs.specs.Job.{rankingOf, recordDraws, roundDraws, roundAt}
 use Rattle.jobs.specs.Board.{recordBytes, jobSheet}
 use Rattle.output.specs.Written.{written}
 use Rattle.output.proofs.Laws.{more, blocks-more}
@@ -64,14 +64,13 @@ able-down job order r m h a =
       place = λ j k l b. a .place j k (omega arith) b;
     }
 
-module _ (job : J.Job) (order : List ℕ) (m : ℕ) (t : RoundPlan) (a : Writable job order (suc m)) (w : RoundPlanned (job .n) (job .K) order m t) where
+module _ (job : J.Job) (order : List ℕ) (t : RoundPlan) (a : Writable job order (suc (t .m))) (w : RoundPlanned (job .n) (job .K) order t) where
   later : (j : ℕ) → t .m ≡ suc j → Later job t j
   later j e =
-      let em : m ≡ suc j = sym (w .round) ∙ e in
-      let l = w .later j em in
+      let l = w .later j e in
       record {
         old = l .2;
-        struck = w .gone ∙ rw (em, l .0, l .1) (a .struck j (omega arith));
+        struck = w .gone ∙ rw (e, l .0, l .1) (a .struck j (omega arith));
         low = rw (l .1) (a .above j (omega arith));
         high = rw (l .1) (a .below j (omega arith));
         left = λ k h. rw (l .0) (a .left j k (omega arith) h);
@@ -84,23 +83,23 @@ module _ (job : J.Job) (order : List ℕ) (m : ℕ) (t : RoundPlan) (a : Writabl
         n-high = a .n-high;
         K-high = a .K-high;
         listed = a .listed;
-        early = rw (w .round) (omega (arith, a .few));
+        early = omega (arith, a .few);
         before-listed = w .before-listed;
         gone-listed = w .gone-listed;
-        drawn = rw (w .round) (a .drawn);
-        new = w .new ∙ rw (w .round);
-        first = λ e. w .gone ∙ rw (sym (w .round) ∙ e);
+        drawn = a .drawn;
+        new = w .new;
+        first = λ e. w .gone ∙ rw e;
         later = later;
       }
 
   -- the records that the turn tells are those of the round
-  pub records-are : (hash : List ℕ → List ℕ) (g : Parameters) → concatBelow (job .K) (recordBytes hash job g (listOf (t .before)) (t .a) (t .m)) ≡ recordsOf hash job g order m
+  pub records-are : (hash : List ℕ → List ℕ) (g : Parameters) → concatBelow (job .K) (recordBytes hash job g (listOf (t .before)) (t .a) (t .m)) ≡ recordsOf hash job g order (t .m)
   unfolding recordsOf
-  records-are hash g = go m refl
+  records-are hash g = go (t .m) refl
     where
-      go : (i : ℕ) → m ≡ i → concatBelow (job .K) (recordBytes hash job g (listOf (t .before)) (t .a) (t .m)) ≡ recordsOf hash job g order i
-      go zero e = let f = w .first e in rw (f .0, f .1, w .round, e)
-      go (suc j) e = let f = w .later j e in rw (f .0, f .1, w .round, e)
+      go : (i : ℕ) → t .m ≡ i → concatBelow (job .K) (recordBytes hash job g (listOf (t .before)) (t .a) (t .m)) ≡ recordsOf hash job g order i
+      go zero e = let f = w .first e in rw (f .0, f .1, e)
+      go (suc j) e = let f = w .later j e in rw (f .0, f .1, e)
 
 module _ (hash : List ℕ → List ℕ) (job : J.Job) (g : Parameters) (order : List ℕ) where
   length-records : (m : ℕ) → length (recordsOf hash job g order m) ≡ job .K * recordLength (job .n) m
@@ -138,10 +137,11 @@ module _ (hash : List ℕ → List ℕ) (job : J.Job) (g : Parameters) (order : 
       (λ i h. sym (getD-take (job .n) counts i 0 h) ∙ ap (λ (x : List ℕ). getD x i 0) ec))))
 
   -- one round more
-  pub rounds-more : (m at : ℕ) (o l x : List ℕ) → at + 54 ≡ roundAt (job .n) (job .K) m → l ≡ written (concatBelow m (roundBytes hash job g order)) o →
-      x ≡ written (roundBytes hash job g order m) (midOf at (length l - at) l) → putMid at (length l - at) l x ≡ written (concatBelow (m + 1) (roundBytes hash job g order)) o
-  rounds-more m at o l x ea el ex =
-      more (concatBelow m (roundBytes hash job g order)) (roundBytes hash job g order m) o l x at (omega (arith, length-rounds m)) el ex ∙ rw (blocks-more (roundBytes hash job g order) m)
+  pub rounds-more : (m t at : ℕ) (o l x : List ℕ) → t ≡ m → at + 54 ≡ roundAt (job .n) (job .K) m → l ≡ written (concatBelow m (roundBytes hash job g order)) o →
+      x ≡ written (roundBytes hash job g order t) (midOf at (length l - at) l) → putMid at (length l - at) l x ≡ written (concatBelow (m + 1) (roundBytes hash job g order)) o
+  rounds-more m t at o l x et ea el ex =
+      more (concatBelow m (roundBytes hash job g order)) (roundBytes hash job g order m) o l x at (omega (arith, length-rounds m)) el (rw et at ex)
+      ∙ rw (blocks-more (roundBytes hash job g order) m)
 
 pub length-header : (label : List ℕ) → length label ≡ 32 → suc (suc (suc (suc (suc (suc (suc (suc (suc (suc (suc (suc (suc (suc (suc (suc (suc (suc (suc (suc (suc (suc (length label))))))))))))))))))))))
     ≡ 54

@@ -4,7 +4,7 @@ use mathlib.Core.Path.{_≡_}
 use mathlib.Core.List.{List, [], _∷_, _++_}
 use lib.ListN.{length, getD, take}
 use Rattle.numbers.specs.Below.{concatBelow}
-use Rattle.group.specs.Elements.{Parameters}
+use Rattle.group.specs.Elements.{Parameters, parametersOf}
 use Rattle.rules.specs.Count.{countsOf, table}
 use Rattle.jobs.specs.Job as J
 use Rattle.jobs.specs.Job.{rankingOf, roundDraws, remaining, rowOf}
@@ -13,13 +13,17 @@ use Rattle.proving.specs.Plans.{DrawsBelow}
 use Rattle.count.specs.State.{countsOn, listOf, Listed}
 use Rattle.count.specs.declared.Sheet.{Sheet}
 use Rattle.count.specs.declared.Count.{Count}
-use Rattle.boards.specs.declared.Size.{Size}
+use Rattle.boards.specs.declared.Head.{Head}
 use Rattle.boards.specs.declared.records.RoundPlan.{RoundPlan}
 
--- the job of the rules that a board's size and group tell
-abbrev pub boardJob : Size → Parameters → (label rankings draws : List ℕ) → J.Job
-boardJob size g label rankings draws =
-    record { n = size .n; K = size .k; p = g .p; q = g .q; g0 = g .g0; counter = size .counter; label = label; rankings = rankings; draws = draws }
+-- the group that a board's header tells, and the job of the rules
+abbrev pub headGroup : Head → Parameters
+headGroup head = parametersOf (head .setup .group)
+
+abbrev pub boardJob : Head → (label rankings draws : List ℕ) → J.Job
+boardJob head label rankings draws =
+    let g = headGroup head in
+    record { n = head .n; K = head .k; p = g .p; q = g .q; g0 = g .g0; counter = head .counter; label = label; rankings = rankings; draws = draws }
 
 -- what round j left to the next
 pub record Later (job : J.Job) (t : RoundPlan) (j : ℕ) : Type 0 where
@@ -43,15 +47,14 @@ pub record RoundReady (job : J.Job) (t : RoundPlan) : Type 0 where
   pub first : t .m ≡ 0 → listOf (t .gone) ≡ []
   pub later : (j : ℕ) → t .m ≡ suc j → Later job t j
 
--- round m of a board whose processes go out in an order
-pub record RoundPlanned (n K : ℕ) (order : List ℕ) (m : ℕ) (t : RoundPlan) : Type 0 where
-  pub round : t .m ≡ m
+-- a round of a board whose processes go out in an order
+pub record RoundPlanned (n K : ℕ) (order : List ℕ) (t : RoundPlan) : Type 0 where
   pub before-listed : Listed (t .before)
   pub gone-listed : Listed (t .gone)
-  pub gone : listOf (t .gone) ≡ take m order
-  pub new : t .new ≡ roundDraws n K m
-  pub first : m ≡ 0 → (listOf (t .before) ≡ []) × (t .a ≡ 0)
-  pub later : (j : ℕ) → m ≡ suc j → (listOf (t .before) ≡ take j order) × (t .a ≡ getD order j 0) × (t .old ≡ roundDraws n K j)
+  pub gone : listOf (t .gone) ≡ take (t .m) order
+  pub new : t .new ≡ roundDraws n K (t .m)
+  pub first : t .m ≡ 0 → (listOf (t .before) ≡ []) × (t .a ≡ 0)
+  pub later : (j : ℕ) → t .m ≡ suc j → (listOf (t .before) ≡ take j order) × (t .a ≡ getD order j 0) × (t .old ≡ roundDraws n K j)
 
 -- what a board needs whose processes go out in an order: the draws are there, each process that goes out was still in
 pub record Writable (job : J.Job) (order : List ℕ) (rounds : ℕ) : Type 0 where

@@ -1,4 +1,5 @@
 // The sheet of a round.
+use crate::Head;
 use ballots::sums;
 use count::Sheet;
 ghost use mathlib.Core.Path.{_≡_};
@@ -29,22 +30,21 @@ fn write_tally(
     output::put_number4(&mut out[2..], s.0);
 }
 
-// What a sheet is written for: n processes and k ballots, round m from 0, who went out, where the round's draws start, and how many each record needs.
+// What a sheet is written for: round m from 0, who went out, where the round's draws start, and how many each record needs.
 pub struct SheetPlan {
-    pub n: usize,
-    pub k: usize,
     pub m: u8,
     pub gone: u8,
     pub from: usize,
     pub stride: usize,
 }
 
-pub fn write_sheet(out: &mut [u8], q: u32, plan: SheetPlan, sheet: Sheet, draws: &[u32])
-    requires { ⌜ (0 < q) × (0 < plan .k) × (plan .k ≤ 1000) × (plan .stride ≤ 10000) × (plan .n ≤ 8) × (plan .from < 2 ^ 30) × (plan .from + plan .n + plan .stride * (plan .k - 1) ≤ length (now draws)) × (sheetLength (plan .n) ≤ length (now out)) × (plan .m < 8) ⌝ }
-    ensures { λ _. ⌜ now (out .exit) ≡ written (sheetBytes q (plan .n) (plan .k) (now (draws .entry)) (plan .from) (plan .stride) (plan .m) (plan .gone) (sheet .counts)) (now (out .entry)) ⌝ }
+pub fn write_sheet(out: &mut [u8], head: Head, plan: SheetPlan, sheet: Sheet, draws: &[u32])
+    requires { ⌜ (0 < head .setup .group .q) × (0 < head .k) × (head .k ≤ 1000) × (plan .stride ≤ 10000) × (head .n ≤ 8) × (plan .from < 2 ^ 30) × (plan .from + head .n + plan .stride * (head .k - 1) ≤ length (now draws)) × (sheetLength (head .n) ≤ length (now out)) × (plan .m < 8) ⌝ }
+    ensures { λ _. ⌜ now (out .exit) ≡ written (sheetBytes (head .setup .group .q) (head .n) (head .k) (now (draws .entry)) (plan .from) (plan .stride) (plan .m) (plan .gone) (sheet .counts)) (now (out .entry)) ⌝ }
 {
-    let n = plan.n;
-    let k = plan.k;
+    let q = head.setup.group.q;
+    let n = head.n;
+    let k = head.k;
     let m = plan.m;
     let gone = plan.gone;
     let from = plan.from;

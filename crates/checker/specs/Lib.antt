@@ -1,3 +1,2 @@
--- Where rounds stand, and what they come to.
-pub mod Offsets
-pub mod Outcomes
+-- The models whose boards the checker reads.
+pub mod Models

@@ -1,11 +1,13 @@
 // The checker of a board: the rounds in order, and the verdict.
-use crate::offsets::RoundOffsets;
-use crate::round::RoundOutcome;
 use count::Count;
 use records::Head;
 use records::header::HeaderRead;
+use round::Round;
+use round::RoundOutcome;
+use round::RoundRead;
 use rules::Answer;
 use rules::Checked;
+use rules::Model;
 use rules::Refusal;
 ghost use mathlib.Core.Path.{_≡_};
 ghost use Prim.Native.Nat.{_+_};
@@ -13,22 +15,24 @@ ghost use lib.ListN.{replicate};
 ghost use Rattle.sha256.specs.Message.{sha256};
 ghost use Rattle.rules.specs.Records.{headerLength};
 ghost use Rattle.rules.specs.Count.{start};
-ghost use Rattle.rules.specs.Check.{accepted, refused, checkFrom, checkBoard};
+ghost use Rattle.rules.specs.Header.{ranked};
+ghost use Rattle.rules.specs.Check.{accepted, refused, checkFrom, checkModel, checkBoard};
 ghost use Rattle.rules.specs.Answers.{refusalNumber, verdictOf, orderOf};
 ghost use Rattle.count.specs.State.{standingOf, Kept};
 ghost use Rattle.records.specs.Heads.{headOf, HeaderKnown, HeaderReads};
+ghost use Rattle.round.specs.Rounds.{Begins};
+ghost use Rattle.round.specs.Outcomes.{Rounded};
+ghost use Rattle.checker.specs.Models.{Narrower};
 
-mod offsets;
 mod reading;
-mod round;
 
-fn refused(why: Refusal, place: usize) -> Checked
-    ensures { λ r. ⌜ (verdictOf r ≡ refused (refusalNumber why) place) × (r .order ≡ replicate 8 0) ⌝ }
+fn refused(why: Refusal, number: usize) -> Checked
+    ensures { λ r. ⌜ (verdictOf r ≡ refused (refusalNumber why) number) × (r .order ≡ replicate 8 0) ⌝ }
 {
     Checked {
         answer: Answer::Refused {
             refusal: why,
-            record: place,
+            record: number,
         },
         order: [0u8; 8],
     }
@@ -49,40 +53,51 @@ fn accepted(count: Count, n: usize, winner: usize) -> Checked
     }
 }
 
+// One round, from the place where it starts to the place after its sheet.
+fn read_round(board: &[u8], at: usize, h: Head, count: Count, round: Round) -> RoundRead
+    requires { ⌜ HeaderKnown ranked (now board) h × Begins (now board) h at round × Kept count × (count .gone .outs ≡ round .m) ⌝ }
+    ensures { λ r. ⌜ Rounded (now (board .entry)) h count (round .m) (round .a) r ⌝ }
+{
+    let r = reading::start(board, at);
+    let read = reading::records_of(r, h, round);
+    reading::sheet_of(reading::moved(r, read.next), h, count, round, read)
+}
+
 // The rounds from a place on, one after another. Each sheet takes the standing count and hands back the next.
 fn rounds(board: &[u8], at: usize, h: Head) -> Checked
-    requires { ⌜ HeaderKnown (now board) h × (at ≡ headerLength) ⌝ }
+    requires { ⌜ HeaderKnown ranked (now board) h × (at ≡ headerLength) ⌝ }
     ensures { λ r. ⌜ (verdictOf r ≡ checkFrom sha256 (now (board .entry)) (headOf (now (board .entry)) h) (h .n) start 0 0) × (r .order ≡ orderOf (checkFrom sha256 (now (board .entry)) (headOf (now (board .entry)) h) (h .n) start 0 0)) ⌝ }
 {
     let head = h;
     let n = h.n;
-    let k = h.k;
     let mut count = Count::new();
-    let mut offsets = RoundOffsets::first(n, at);
+    let mut place = at;
+    let mut round = Round::first();
     loop {
-        let turned = round::read_round(board, head, count, offsets);
-        let round = turned.round;
-        match round {
-            RoundOutcome::Refused(why, place) => {
-                return refused(why, place);
+        let read = read_round(board, place, head, count, round);
+        let outcome = read.outcome;
+        match outcome {
+            RoundOutcome::Refused(why, number) => {
+                return refused(why, number);
             }
             RoundOutcome::Closed(winner) => {
-                let ended = turned.count;
+                let ended = read.count;
                 return accepted(ended, n, winner);
             }
             RoundOutcome::Open(out) => {
-                let next = turned.count;
+                let next = read.count;
                 count = next;
-                offsets = offsets.next(n, k, out);
+                round = round.next(read.number, out, place);
+                place = read.next;
             }
         }
     }
 }
 
-// The verdict on a board whose HD record was opened, its rounds being read from a place on.
-fn verdict(board: &[u8], at: usize, read: HeaderRead) -> Checked
-    requires { ⌜ HeaderReads (now board) read × (at ≡ headerLength) ⌝ }
-    ensures { λ r. ⌜ (verdictOf r ≡ checkBoard sha256 (now (board .entry))) × (r .order ≡ orderOf (checkBoard sha256 (now (board .entry)))) ⌝ }
+// The verdict on a board of a model whose header was read, its rounds being read from a place on.
+fn verdict(board: &[u8], at: usize, model: Model, read: HeaderRead) -> Checked
+    requires { ⌜ Narrower model × HeaderReads model (now board) read × (at ≡ headerLength) ⌝ }
+    ensures { λ r. ⌜ (verdictOf r ≡ checkModel sha256 (now (board .entry)) model) × (r .order ≡ orderOf (checkModel sha256 (now (board .entry)) model)) ⌝ }
 {
     match read {
         HeaderRead::Board(h) => rounds(board, at, h),
@@ -90,11 +105,19 @@ fn verdict(board: &[u8], at: usize, read: HeaderRead) -> Checked
     }
 }
 
-// The verdict on a board. The HD record is read at the first place, the rounds from the place after it on.
+// The verdict on a board of a model. Its header is read at the first place, the rounds from the place after it on.
+fn check_model(board: &[u8], model: Model) -> Checked
+    requires { ⌜ Narrower model ⌝ }
+    ensures { λ r. ⌜ (verdictOf r ≡ checkModel sha256 (now (board .entry)) model) × (r .order ≡ orderOf (checkModel sha256 (now (board .entry)) model)) ⌝ }
+{
+    let r = reading::start(board, 0);
+    let read = reading::header_of(r, model);
+    reading::verdict_of(reading::moved(r, layout::HEADER_LENGTH), model, read)
+}
+
+// The verdict on a board of rankings.
 pub fn check(board: &[u8]) -> Checked
     ensures { λ r. ⌜ (verdictOf r ≡ checkBoard sha256 (now (board .entry))) × (r .order ≡ orderOf (checkBoard sha256 (now (board .entry)))) ⌝ }
 {
-    let r = reading::start(board);
-    let read = reading::header_of(r);
-    reading::verdict_of(reading::moved(r, layout::HEADER_LENGTH), read)
+    check_model(board, layout::ranked())
 }

@@ -1,27 +1,38 @@
-// A lent board and its next unread place, together. The functions over it are few and leave the work to others, on a plain slice and a place:
-// their proofs follow the code by hand, step by step.
+// A lent board and its next unread place, together: what the header and the rounds are read with. The functions over it are few and leave the
+// work to others, on a plain slice and a place: their proofs follow the code by hand, step by step.
+use count::Count;
+use records::Head;
 use records::header;
 use records::header::HeaderRead;
+use round::RecordsRead;
+use round::Round;
+use round::RoundRead;
 use rules::Checked;
+use rules::Model;
 ghost use mathlib.Core.Path.{_≡_};
-ghost use Prim.Native.Nat.{_≤_};
+ghost use Prim.Native.Nat.{_+_, _≤_, _<_};
 ghost use lib.ListN.{length, drop};
 ghost use Rattle.sha256.specs.Message.{sha256};
 ghost use Rattle.rules.specs.Records.{headerLength};
-ghost use Rattle.rules.specs.Check.{checkBoard};
+ghost use Rattle.rules.specs.Header.{ranked};
+ghost use Rattle.rules.specs.Check.{checkModel};
 ghost use Rattle.rules.specs.Answers.{verdictOf, orderOf};
-ghost use Rattle.records.specs.Heads.{HeaderReads};
+ghost use Rattle.count.specs.State.{Kept};
+ghost use Rattle.records.specs.Heads.{HeaderKnown, HeaderReads};
+ghost use Rattle.round.specs.Rounds.{Begins};
+ghost use Rattle.round.specs.Outcomes.{RecordsReads, Rounded};
+ghost use Rattle.checker.specs.Models.{Narrower};
 
 pub struct Reading<'a> {
     board: &'a [u8],
     next: usize,
 }
 
-// A reading of the whole board.
-pub fn start<'a>(board: &'a [u8]) -> Reading<'a>
-    ensures { λ r. ⌜ (r .board ≡ board .entry) × (r .next ≡ 0) ⌝ }
+// A reading of a board from a place on.
+pub fn start<'a>(board: &'a [u8], next: usize) -> Reading<'a>
+    ensures { λ r. ⌜ (r .board ≡ board .entry) × (r .next ≡ next) ⌝ }
 {
-    Reading { board, next: 0 }
+    Reading { board, next }
 }
 
 // The same board, to be read from another place on.
@@ -34,26 +45,49 @@ pub fn moved<'a>(r: Reading<'a>, next: usize) -> Reading<'a>
     }
 }
 
-// What the bytes from a place on hold as an HD record.
-fn header_at(board: &[u8], at: usize) -> HeaderRead
+// What the bytes from a place on hold as the header of a model.
+fn header_at(board: &[u8], at: usize, model: Model) -> HeaderRead
     requires { ⌜ at ≤ length (now board) ⌝ }
-    ensures { λ o. ⌜ HeaderReads (drop at (now (board .entry))) o ⌝ }
+    ensures { λ o. ⌜ HeaderReads model (drop at (now (board .entry))) o ⌝ }
 {
-    header::read_header(&board[at..])
+    header::read_header(&board[at..], model)
 }
 
-// The HD record at the next place.
-pub fn header_of<'a>(r: Reading<'a>) -> HeaderRead
+// The header at the next place.
+pub fn header_of<'a>(r: Reading<'a>, model: Model) -> HeaderRead
     requires { ⌜ r .next ≤ length (now (r .board)) ⌝ }
-    ensures { λ o. ⌜ HeaderReads (drop (r .entry .next) (now (r .entry .board))) o ⌝ }
+    ensures { λ o. ⌜ HeaderReads model (drop (r .entry .next) (now (r .entry .board))) o ⌝ }
 {
-    header_at(r.board, r.next)
+    header_at(r.board, r.next, model)
+}
+
+// The ballots' records of a round, from the next place on.
+pub fn records_of<'a>(r: Reading<'a>, h: Head, round: Round) -> RecordsRead
+    requires { ⌜ HeaderKnown ranked (now (r .board)) h × Begins (now (r .board)) h (r .next) round ⌝ }
+    ensures { λ o. ⌜ RecordsReads (now (r .entry .board)) h (round .a) (round .m) o ⌝ }
+{
+    round::read_records(r.board, r.next, h, round)
+}
+
+// The sheet at the next place, after the records of its round.
+pub fn sheet_of<'a>(
+    r: Reading<'a>,
+    h: Head,
+    count: Count,
+    round: Round,
+    read: RecordsRead,
+) -> RoundRead
+    requires { ⌜ HeaderKnown ranked (now (r .board)) h × Kept count × (count .gone .outs ≡ round .m) × (round .m + 1 < h .n) ⌝ }
+    requires { ⌜ RecordsReads (now (r .board)) h (round .a) (round .m) read × (r .next ≡ read .next) ⌝ }
+    ensures { λ o. ⌜ Rounded (now (r .entry .board)) h count (round .m) (round .a) o ⌝ }
+{
+    round::end_round(r.board, r.next, h, count, round, read)
 }
 
 // The verdict on a board whose header was read, its rounds being read from the next place on.
-pub fn verdict_of<'a>(r: Reading<'a>, read: HeaderRead) -> Checked
-    requires { ⌜ HeaderReads (now (r .board)) read × (r .next ≡ headerLength) ⌝ }
-    ensures { λ c. ⌜ (verdictOf c ≡ checkBoard sha256 (now (r .entry .board))) × (c .order ≡ orderOf (checkBoard sha256 (now (r .entry .board)))) ⌝ }
+pub fn verdict_of<'a>(r: Reading<'a>, model: Model, read: HeaderRead) -> Checked
+    requires { ⌜ Narrower model × HeaderReads model (now (r .board)) read × (r .next ≡ headerLength) ⌝ }
+    ensures { λ c. ⌜ (verdictOf c ≡ checkModel sha256 (now (r .entry .board)) model) × (c .order ≡ orderOf (checkModel sha256 (now (r .entry .board)) model)) ⌝ }
 {
-    crate::verdict(r.board, r.next, read)
+    crate::verdict(r.board, r.next, model, read)
 }

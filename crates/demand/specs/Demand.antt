@@ -5,7 +5,7 @@ use mathlib.Core.List.{List}
 use lib.ListN.{length, take, drop}
 use Rattle.sha256.specs.Message.{sha256}
 use Rattle.rules.specs.Count.{table, plainCount}
-use Rattle.rules.specs.Check.{header}
+use Rattle.rules.specs.Header.{header}
 use Rattle.rules.specs.Openings.{Opens}
 use Rattle.rules.specs.declared.Checked.{Checked}
 use Rattle.rules.specs.declared.Answer.the-variants as A

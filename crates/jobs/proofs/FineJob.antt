@@ -9,7 +9,7 @@ use lib.Dec.{leb, ltb, eqb}
 use lib.ListN.{length}
 use borrow.Author.Tests.{ltb-true, leb-true, le-leb, eqb-true}
 use Rattle.jobs.specs.Job.{boardLength, Job, groupOf, rankingOf, needed, draw}
-use Rattle.rules.specs.Check.{firstFault}
+use Rattle.rules.specs.Tests.{firstFault}
 use Rattle.numbers.proofs.Tests.{all-at}
 use Rattle.rules.specs.Group.{orders, generators}
 use Rattle.group.specs.Elements.{isElement}

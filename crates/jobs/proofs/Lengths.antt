@@ -3,15 +3,18 @@ use Prim.Native.Nat.{ℕ, zero, suc, _+_, _*_, _-_, _<_}
 use mathlib.Core.Path.{_≡_, refl}
 use mathlib.Core.List.{List, _++_}
 use native.Mathlib.Omega.{arith}
+use lib.Dec.{eqb}
 use lib.ListN.{length, length-append}
 use Rattle.numbers.specs.Below.{concatBelow}
 use Rattle.numbers.proofs.Blocks.{length-blocks}
+use Rattle.numbers.proofs.Tests.{by-cases}
 use Rattle.group.specs.Elements.{Parameters}
 use Rattle.rules.specs.Bytes.{bytes4}
+use Rattle.rules.specs.Proofs.{Statement}
 use Rattle.rules.specs.Claims.{Matrix}
 use Rattle.rules.specs.Records.{recordLength, ballotLength, shiftLength, sheetLength}
 use Rattle.jobs.specs.Job.{Job}
-use Rattle.jobs.specs.Prover.{Prover, committed, responseOf, branchBytes, proofBytes}
+use Rattle.jobs.specs.Prover.{Prover, trueCommitments, falseCommitments, committed, responseOf, branchBytes, proofBytes}
 use Rattle.jobs.specs.Records.{matrixOf, pairBytes, entryProver, rowProver, columnProver, shiftProver, ballotProofBytes, ballotBytes, shiftBytes, sheetColumn, sheetBytes}
 use Rattle.jobs.specs.Board.{recordBytes}
 
@@ -33,10 +36,23 @@ pub length-sheet : (q n K : ℕ) (draws : List ℕ) (from each m out : ℕ) (cou
 unfolding sheetBytes
 length-sheet q n K draws from each m out counts = omega (arith, length-blocks n 6 (sheetColumn q n K draws from each counts) (λ _ _. refl))
 
+-- the commitments of a statement
+module _ (g : Parameters) where
+  pub length-true : (x : ℕ) → length (trueCommitments g x) ≡ 8
+  unfolding trueCommitments
+  length-true x = refl
+
+  pub length-false : (st : Statement) (e r : ℕ) → length (falseCommitments g st e r) ≡ 8
+  unfolding falseCommitments
+  length-false st e r = refl
+
+  pub length-committed : (pr : Prover) (l i : ℕ) → length (committed g pr l i) ≡ 8
+  length-committed pr l i = by-cases (eqb l (pr .known)) (λ e. rw e (length-true _)) (λ e. rw e (length-false _ _ _))
+
 module _ (hash : List ℕ → List ℕ) (label : List ℕ) (g : Parameters) where
   pub length-proof : (pr : Prover) → length (proofBytes g pr hash label) ≡ pr .branches * (4 + 12 * pr .statements)
   unfolding proofBytes
-  length-proof pr = length-blocks (pr .branches) (4 + 12 * pr .statements) _ (λ l h. length-branch _ (pr .statements) (committed g pr l) (responseOf g pr hash label l) (λ i _. refl))
+  length-proof pr = length-blocks (pr .branches) (4 + 12 * pr .statements) _ (λ l h. length-branch _ (pr .statements) (committed g pr l) (responseOf g pr hash label l) (λ i _. length-committed g pr l i))
 
   -- proofs of one size behind one another
   pub length-proofs : (n b s : ℕ) (f : ℕ → Prover) → ((i : ℕ) → f i .branches ≡ b) → ((i : ℕ) → f i .statements ≡ s) →

@@ -11,8 +11,9 @@ use Rattle.numbers.proofs.Tests.{by-cases, and-true, all-true}
 use Rattle.numbers.proofs.Products.{prod-same}
 use Rattle.rules.specs.Bytes.{bytes4, Stands}
 use Rattle.group.specs.Elements.{Parameters, isElement}
-use Rattle.rules.specs.Claims.{Matrix, matrixAt, entryClaim, rowClaim, columnClaim, shiftClaim, source, besides}
-use Rattle.rules.specs.Check.{Header, pairsGood}
+use Rattle.rules.specs.Claims.{Matrix, matrixAt, entryClaim, lineClaim, rowClaim, columnClaim, shiftClaim, source, besides}
+use Rattle.rules.specs.Header.{Header}
+use Rattle.rules.specs.Ballot.{pairsGood}
 use Rattle.rules.proofs.Places.{stands-left, stands-right, stands-moved, stands-block, word-stands}
 use Rattle.jobs.specs.Records.{pairBytes}
 use Rattle.jobs.proofs.Lengths.{length-pairs-row}
@@ -38,25 +39,24 @@ pairs-stand s at n rows M small-b small-y h =
       same-y = λ i j a b. word-stands (small-y i j) (stands-right (bytes4 (M .b i j)) _ refl (cell i j a b));
     }
 
-pub pairs-good : (hash : List ℕ → List ℕ) (s : List ℕ) (h : Header) (rows : ℕ) (M M' : Matrix) → SameMatrix rows (h .n) M M' →
+pub pairs-good : (h : Header) (rows : ℕ) (M M' : Matrix) → SameMatrix rows (h .n) M M' →
     ((i j : ℕ) → isElement (h .group .p) (h .group .q) (M' .b i j) ≡ true) → ((i j : ℕ) → isElement (h .group .p) (h .group .q) (M' .y i j) ≡ true) →
-    pairsGood s h rows M ≡ true
+    pairsGood h rows M ≡ true
 unfolding pairsGood
-pairs-good hash s h rows M M' e eb ey =
+pairs-good h rows M M' e eb ey =
     all-true rows _ (λ i a. all-true (h .n) _ (λ j b. rw (e .same-b i j a b, e .same-y i j a b) (and-true (eb i j) (ey i j))))
 
 module _ (g : Parameters) (n : ℕ) where
-  pub entry-same : (M M' : Matrix) (rows i j l : ℕ) → SameMatrix rows n M M' → i < rows → j < n → entryClaim g M i j l ≡ entryClaim g M' i j l
-  unfolding entryClaim
-  entry-same M M' rows i j zero e a b = rw (e .same-b i j a b, e .same-y i j a b)
-  entry-same M M' rows i j (suc l) e a b = rw (e .same-b i j a b, e .same-y i j a b)
+  pub entry-same : (M M' : Matrix) (rows i j l : ℕ) → SameMatrix rows n M M' → i < rows → j < n →
+      entryClaim g (M .b i j) (M .y i j) l ≡ entryClaim g (M' .b i j) (M' .y i j) l
+  entry-same M M' rows i j l e a b = rw (e .same-b i j a b, e .same-y i j a b)
 
   pub row-same : (M M' : Matrix) (rows i : ℕ) → SameMatrix rows n M M' → i < rows → rowClaim g n M i ≡ rowClaim g n M' i
-  unfolding rowClaim
+  unfolding lineClaim
   row-same M M' rows i e a = rw (prod-same n (λ j. M .b i j) (λ j. M' .b i j) (λ j b. e .same-b i j a b), prod-same n (λ j. M .y i j) (λ j. M' .y i j) (λ j b. e .same-y i j a b))
 
   pub column-same : (M M' : Matrix) (j : ℕ) → SameMatrix n n M M' → j < n → columnClaim g n M j ≡ columnClaim g n M' j
-  unfolding columnClaim
+  unfolding lineClaim
   column-same M M' j e b =
       rw (prod-same n (λ i. M .b i j) (λ i. M' .b i j) (λ i a. e .same-b i j a b), prod-same n (λ i. M .y i j) (λ i. M' .y i j) (λ i a. e .same-y i j a b))
 

@@ -12,9 +12,9 @@ use Rattle.numbers.proofs.Residues.{mul-mod-right}
 use Rattle.group.specs.Elements.{Parameters}
 use Rattle.rules.specs.Bytes.{bytes4}
 use Rattle.rules.specs.Proofs.{Statement}
-use Rattle.jobs.specs.Prover.{Prover, committed, commitment, responseOf, wholeChallenge, trueChallenge, proofBytes, branchBytes}
+use Rattle.jobs.specs.Prover.{Prover, committed, responseOf, wholeChallenge, trueChallenge, proofBytes, branchBytes}
 
-module _ (hash : List ℕ → List ℕ) (label : List ℕ) (g : Parameters) (draw : ℕ → ℕ) (branches statements known from : ℕ) where
+module _ (hash : List ℕ → List ℕ) (prefix : List ℕ) (g : Parameters) (draw : ℕ → ℕ) (branches statements known from : ℕ) where
   abbrev maker : (ℕ → ℕ → Statement) → (ℕ → ℕ) → Prover
   maker claim w =
       record { branches = branches; statements = statements; claim = claim; known = known; witness = w; draw = draw; from = from }
@@ -23,17 +23,16 @@ module _ (hash : List ℕ → List ℕ) (label : List ℕ) (g : Parameters) (dra
       (same : (l i : ℕ) → l < branches → i < statements → (l ≡ known → ⊥) → claim l i ≡ claim' l i)
       (near : (i : ℕ) → i < statements → w i % g .q ≡ w' i % g .q) where
     same-committed : (l i : ℕ) → l < branches → i < statements → committed g (maker claim w) l i ≡ committed g (maker claim' w') l i
-    unfolding commitment
     same-committed l i h k = by-cases (eqb l known) (λ e. rw e) (λ e. rw (e, same l i h k (eqb-false l known e)))
 
-    same-whole : wholeChallenge g (maker claim w) hash label ≡ wholeChallenge g (maker claim' w') hash label
+    same-whole : wholeChallenge g (maker claim w) hash prefix ≡ wholeChallenge g (maker claim' w') hash prefix
     unfolding wholeChallenge
     same-whole =
         let s : concatBelow branches (λ l. concatBelow statements (committed g (maker claim w) l)) ≡ concatBelow branches (λ l. concatBelow statements (committed g (maker claim' w') l)) =
         blocks-same branches _ _ (λ l h. blocks-same statements _ _ (λ i k. same-committed l i h k)) in
         rw s
 
-    same-true : trueChallenge g (maker claim w) hash label ≡ trueChallenge g (maker claim' w') hash label
+    same-true : trueChallenge g (maker claim w) hash prefix ≡ trueChallenge g (maker claim' w') hash prefix
     unfolding trueChallenge
     same-true = rw same-whole
 
@@ -41,11 +40,11 @@ module _ (hash : List ℕ → List ℕ) (label : List ℕ) (g : Parameters) (dra
     answer-near a c x y e =
         cc (add-mod-mod a (c * x) (g .q), add-mod-mod a (c * y) (g .q), mul-mod-right c x (g .q), mul-mod-right c y (g .q))
 
-    same-response : (l i : ℕ) → i < statements → responseOf g (maker claim w) hash label l i ≡ responseOf g (maker claim' w') hash label l i
+    same-response : (l i : ℕ) → i < statements → responseOf g (maker claim w) hash prefix l i ≡ responseOf g (maker claim' w') hash prefix l i
     same-response l i k =
         by-cases (eqb l known) (λ e. rw (e, same-true) (answer-near _ _ (w i) (w' i) (near i k))) (λ e. rw e)
 
-    pub proof-same : proofBytes g (maker claim w) hash label ≡ proofBytes g (maker claim' w') hash label
+    pub proof-same : proofBytes g (maker claim w) hash prefix ≡ proofBytes g (maker claim' w') hash prefix
     unfolding proofBytes branchBytes
     proof-same =
         blocks-same branches _ _ (λ l h.

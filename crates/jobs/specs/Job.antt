@@ -7,9 +7,9 @@ use lib.ListN.{getD}
 use Rattle.group.specs.Elements.{Parameters}
 use Rattle.rules.specs.Bytes.{part}
 use Rattle.rules.specs.Group.{derived}
-use Rattle.rules.specs.Records.{roundAt}
+use Rattle.rules.specs.Records.{headerLength, recordLength, sheetLength}
 use Rattle.rules.specs.Count.{Result, table, member, plainCount}
-use Rattle.rules.specs.Check.{Header}
+use Rattle.rules.specs.Header.{Header}
 
 -- "The writer is given n, K, p, q, g0, a counter of any value, label, rankings (a byte a place, one ranking after another) and draws (numbers of 32 bits)"
 pub record Job : Type 0 where
@@ -36,6 +36,12 @@ roundDraws n K (suc m) = roundDraws n K m + K * recordDraws n m
 
 abbrev pub drawsAt : (n K m k : ℕ) → ℕ
 drawsAt n K m k = roundDraws n K m + k * recordDraws n m
+
+-- the bytes of a header and m rounds: on a board of K ballots, where round m starts
+unfoldable pub roundAt : (n K m : ℕ) → ℕ
+unfolding recordLength
+roundAt n K zero = headerLength
+roundAt n K (suc m) = roundAt n K m + K * recordLength n m + sheetLength n
 
 -- those of a ranking that are still in
 unfoldable pub remaining : (gone ranking : List ℕ) → List ℕ

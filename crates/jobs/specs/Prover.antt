@@ -41,22 +41,29 @@ module _ (pr : Prover) where
 abbrev pub falseCommitment : Parameters → (base side challenge response : ℕ) → ℕ
 falseCommitment g base side e r = mulMod (g .p) (powMod (g .p) base r) (powMod (g .p) side (g .q - e))
 
+-- the commitments of a statement: "t1 = g0^nonce, t2 = g1^nonce" in the true branch, by its equations in a false one
+unfoldable pub trueCommitments : Parameters → (nonce : ℕ) → List ℕ
+trueCommitments g x = bytes4 (powMod (g .p) (g .g0) x) ++ bytes4 (powMod (g .p) (g .g1) x)
+
+unfoldable pub falseCommitments : Parameters → Statement → (challenge response : ℕ) → List ℕ
+falseCommitments g st e r = bytes4 (falseCommitment g (g .g0) (st .left) e r) ++ bytes4 (falseCommitment g (g .g1) (st .right) e r)
+
+-- a response of the true branch, under its challenge
+abbrev pub trueResponse : (q nonce challenge witness : ℕ) → ℕ
+trueResponse q x e w = (x + e * w) % q
+
 -- a branch: a challenge, then for each statement its commitments and response
 unfoldable pub branchBytes : (challenge statements : ℕ) (commitments : ℕ → List ℕ) (response : ℕ → ℕ) → List ℕ
 branchBytes e S t r = bytes4 e ++ concatBelow S (λ i. t i ++ bytes4 (r i))
 
 module _ (g : Parameters) (pr : Prover) where
-  -- "t1 = g0^nonce, t2 = g1^nonce"; of a false branch as above
-  unfoldable pub commitment : (base side l i : ℕ) → ℕ
-  commitment base side l i =
-      cond (eqb l (pr .known)) (powMod (g .p) base (nonce pr i)) (falseCommitment g base side (falseChallenge pr l) (falseResponse pr l i))
-
   abbrev pub committed : (l i : ℕ) → List ℕ
-  committed l i = bytes4 (commitment (g .g0) (pr .claim l i .left) l i) ++ bytes4 (commitment (g .g1) (pr .claim l i .right) l i)
+  committed l i =
+      cond (eqb l (pr .known)) (trueCommitments g (nonce pr i)) (falseCommitments g (pr .claim l i) (falseChallenge pr l) (falseResponse pr l i))
 
-  module _ (hash : List ℕ → List ℕ) (label : List ℕ) where
+  module _ (hash : List ℕ → List ℕ) (prefix : List ℕ) where
     unfoldable pub wholeChallenge : ℕ
-    wholeChallenge = challenge hash label (concatBelow (pr .branches) (λ l. concatBelow (pr .statements) (committed l))) (g .q)
+    wholeChallenge = challenge hash prefix (concatBelow (pr .branches) (λ l. concatBelow (pr .statements) (committed l))) (g .q)
 
     -- the whole challenge less the false ones
     unfoldable pub trueChallenge : ℕ
@@ -66,7 +73,7 @@ module _ (g : Parameters) (pr : Prover) where
     challengeOf l = cond (eqb l (pr .known)) trueChallenge (falseChallenge pr l)
 
     abbrev pub responseOf : (l i : ℕ) → ℕ
-    responseOf l i = cond (eqb l (pr .known)) ((nonce pr i + trueChallenge * pr .witness i) % g .q) (falseResponse pr l i)
+    responseOf l i = cond (eqb l (pr .known)) (trueResponse (g .q) (nonce pr i) trueChallenge (pr .witness i)) (falseResponse pr l i)
 
     unfoldable pub proofBytes : List ℕ
     proofBytes = concatBelow (pr .branches) (λ l. branchBytes (challengeOf l) (pr .statements) (committed l) (responseOf l))

@@ -44,7 +44,7 @@ module _ (g : Parameters) (n : ℕ) (list : ℕ → ℕ) (draws : List ℕ) (fro
       record {
         branches = 2;
         statements = 1;
-        claim = λ l _. entryClaim g (matrixOf g n list draws from) i j l;
+        claim = λ l _. entryClaim g (matrixOf g n list draws from .b i j) (matrixOf g n list draws from .y i j) l;
         known = opened list i j;
         witness = λ _. secretAt n draws from i j;
         draw = λ d. getD draws d 0;

@@ -6,9 +6,10 @@ use mathlib.Core.List.{List, [], _∷_, _++_}
 use lib.Dec.{leb, ltb, eqb}
 use lib.ListN.{length, drop}
 use Rattle.numbers.specs.Below.{allBelow}
-use Rattle.rules.specs.Group.{sizes, orders, generators}
+use Rattle.rules.specs.Group.{orders, generators}
 use Rattle.rules.specs.Count.{isRanking}
-use Rattle.rules.specs.Check.{firstFault, _orElse_}
+use Rattle.rules.specs.Tests.{firstFault, _orElse_}
+use Rattle.rules.specs.Header.{ranked, sizes}
 use Rattle.jobs.specs.Job.{Job, groupOf, rankingOf, draw, needed, boardLength, plainResult}
 use Rattle.jobs.specs.Board.{board}
 
@@ -27,7 +28,7 @@ drawsGood job = leb (needed job) (length (job .draws)) && allBelow (needed job) 
 module _ (hash : List ℕ → List ℕ) (job : Job) where
   -- none of 3, 4, 5 and 13 is due
   pub record Passed : Type 0 where
-    pub sized : sizes (job .n) (job .K) ≡ true
+    pub sized : sizes ranked (job .n) (job .K) ≡ true
     pub ordered : orders (job .n) (job .K) (job .p) (job .q) ≡ true
     pub labelled : labelGood hash job ≡ true
     pub ranked : rankingsGood job ≡ true
@@ -43,7 +44,7 @@ module _ (hash : List ℕ → List ℕ) (job : Job) where
 unfoldable pub jobFault : (hash : List ℕ → List ℕ) → Job → (room : ℕ) → ℕ
 jobFault hash job room =
     firstFault
-    ((sizes (job .n) (job .K) orElse 3)
+    ((sizes ranked (job .n) (job .K) orElse 3)
     ∷ (orders (job .n) (job .K) (job .p) (job .q) orElse 4)
     ∷ (labelGood hash job orElse 5)
     ∷ (rankingsGood job orElse 13)

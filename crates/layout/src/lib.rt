@@ -1,7 +1,9 @@
-// The marks and the lengths of records, for checker and writer alike.
+// The marks and the lengths of records, and the kinds of boards, for checker and writer alike.
+use rules::Model;
 ghost use mathlib.Core.Path.{_≡_};
 ghost use Prim.Native.Nat.{_≤_, _<_};
 ghost use Rattle.rules.specs.Records.{ballotLength, shiftLength, sheetLength, recordLength};
+ghost use Rattle.rules.specs.Header.{ranked};
 
 pub const HD: [u8; 2] = [72, 68];
 
@@ -12,6 +14,18 @@ pub const SH: [u8; 2] = [83, 72];
 pub const RT: [u8; 2] = [82, 84];
 
 pub const HEADER_LENGTH: usize = 54;
+
+// Boards of rankings.
+pub fn ranked() -> Model
+    ensures { λ r. ⌜ r ≡ ranked ⌝ }
+{
+    Model {
+        mark: HD,
+        least: 2,
+        most: 8,
+        ballots: 1000,
+    }
+}
 
 pub fn ballot_length(n: usize) -> usize
     requires { ⌜ n ≤ 8 ⌝ }

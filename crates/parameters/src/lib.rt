@@ -2,6 +2,7 @@
 use group::Element;
 use group::Exponent;
 use group::Group;
+use rules::Model;
 use sha256::Hasher;
 ghost use mathlib.Core.Path.{_≡_};
 ghost use mathlib.Core.List.{[], _∷_, _++_};
@@ -9,21 +10,23 @@ ghost use Prim.Native.Nat.{_+_, _-_, _/_, _%_, _<_};
 ghost use Rattle.sha256.specs.Message.{sha256};
 ghost use Rattle.group.specs.Elements.{parametersOf};
 ghost use Rattle.rules.specs.Bytes.{bytes4};
-ghost use Rattle.rules.specs.Group.{sizes, orders, derived, generators};
+ghost use Rattle.rules.specs.Group.{orders, derived, generators};
+ghost use Rattle.rules.specs.Header.{sizes};
 
-pub fn sizes_good(n: usize, k: usize) -> bool
-    ensures { λ r. ⌜ r ≡ sizes n k ⌝ }
+// The ranges of n and K on a kind of board.
+pub fn sizes_good(model: Model, n: usize, k: usize) -> bool
+    ensures { λ r. ⌜ r ≡ sizes model n k ⌝ }
 {
-    if n < 2 {
+    if n < model.least {
         return false;
     }
-    if 8 < n {
+    if model.most < n {
         return false;
     }
     if k < 1 {
         return false;
     }
-    k <= 1000
+    k <= model.ballots
 }
 
 // The rules on p and q.

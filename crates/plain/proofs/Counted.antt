@@ -1,20 +1,18 @@
 -- The plain count, round by round, as the code's standing count goes.
-use Prim.Native.Nat.{ℕ, zero, suc, _+_, _*_, _-_, _≤_, _<_}
-use mathlib.Core.Path.{_≡_, refl, sym, ap, _∙_}
-use mathlib.Core.Bool.{Bool, true, false, _||_, true≢false}
+use Prim.Native.Nat.{ℕ, suc, _+_, _*_, _-_, _≤_, _<_}
+use mathlib.Core.Path.{_≡_, sym, ap, _∙_}
+use mathlib.Core.Bool.{true, false}
 use mathlib.Core.List.{List}
 use mathlib.Core.Logic.{⊎-elim}
 use native.Mathlib.Nat.{mul-le-mul-right, eq-or-lt-of-le}
 use native.Mathlib.Numerals.{add-one}
 use native.Mathlib.Omega.{arith}
-use borrow.Author.Tests.{eq-eqb}
-use lib.Dec.{eqb}
 use lib.ListN.{length, getD, set, take, replicate, length-append, length-replicate}
 use lib.Seq.{length-take-le, take-suc, take-at, drop-at}
-use Rattle.rules.specs.Records.{roundAt, recordLength, sheetLength}
-use Rattle.rules.specs.Count.{Standing, next, ended, closes, majority, countsOf, countFrom, plainCount, table}
+use Rattle.rules.specs.Records.{recordLength, sheetLength}
+use Rattle.rules.specs.Count.{next, ended, closes, countsOf, countFrom, plainCount, table}
 use Rattle.rules.proofs.Lists.{length-table}
-use Rattle.jobs.specs.Job.{roundDraws, recordDraws}
+use Rattle.jobs.specs.Job.{roundDraws, recordDraws, roundAt}
 use Rattle.count.specs.declared.Count.{Count}
 use Rattle.count.specs.declared.Gone.{Gone}
 use Rattle.count.specs.State.{standingOf, listOf, Listed}

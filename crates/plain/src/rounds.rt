@@ -6,9 +6,8 @@ ghost use mathlib.Core.Path.{_≡_};
 ghost use Prim.Native.Nat.{_+_, _*_, _≤_, _<_};
 ghost use lib.ListN.{length};
 ghost use Rattle.rules.specs.Bytes.{part};
-ghost use Rattle.rules.specs.Records.{roundAt};
 ghost use Rattle.rules.specs.Count.{plainCount, table};
-ghost use Rattle.jobs.specs.Job.{recordDraws, roundDraws};
+ghost use Rattle.jobs.specs.Job.{recordDraws, roundDraws, roundAt};
 ghost use Rattle.count.specs.State.{resultOf, Kept};
 
 // The draws that a board needs, and its length.

@@ -9,21 +9,11 @@ use Rattle.numbers.specs.Below.{concatBelow}
 use Rattle.sha256.specs.declared.Hasher.{Hasher}
 use Rattle.sha256.specs.Feed.{Fed}
 use Rattle.rules.specs.Bytes.{bytes4, part}
-use Rattle.group.specs.Elements.{Parameters}
-use Rattle.rules.specs.Proofs.{Statement}
 use Rattle.output.specs.Written.{written}
 use Rattle.output.proofs.Laws.{more, skip, blocks-more}
 use Rattle.jobs.specs.Prover.{branchBytes}
-use Rattle.proving.specs.Plans.{Stated, truePair, falsePair}
+use Rattle.proving.specs.Plans.{Stated}
 use Rattle.jobs.proofs.Lengths.{length-branch}
-
-pub length-true : (g : Parameters) (x : ℕ) → length (truePair g x) ≡ 8
-unfolding truePair
-length-true g x = refl
-
-pub length-false : (g : Parameters) (s : Statement) (e r : ℕ) → length (falsePair g s e r) ≡ 8
-unfolding falsePair
-length-false g s e r = refl
 
 module _ (e : ℕ) (t : ℕ → List ℕ) (r : ℕ → ℕ) where
   pub branch-none : (o : List ℕ) → written (bytes4 e) o ≡ written (branchBytes e 0 t r) o

@@ -20,13 +20,13 @@ use Rattle.rules.specs.Bytes.{bytes4, number8, part}
 use Rattle.group.specs.Elements.{Parameters}
 use Rattle.group.specs.declared.Exponent.{Exponent}
 use Rattle.rules.specs.Proofs.{Statement}
-use Rattle.jobs.specs.Prover.{Prover, committed, commitment, challengeOf, responseOf, wholeChallenge, trueChallenge, proofBytes, branchBytes}
+use Rattle.jobs.specs.Prover.{Prover, committed, challengeOf, responseOf, wholeChallenge, trueChallenge, proofBytes, branchBytes}
 use Rattle.output.specs.Written.{written}
 use Rattle.output.proofs.Laws.{more, patch, rest-from, blocks-more}
 use Rattle.proving.specs.declared.Plan.{Plan}
-use Rattle.proving.specs.Plans.{Branched, draftChallenge, draftCommitments, draftResponses, draftBranch, falseComplements, planDraws, truePair, falsePair, answers, proverOf, proofOf}
-use Rattle.proving.proofs.Branches.{length-true, length-false}
-use Rattle.jobs.proofs.Lengths.{length-branch}
+use Rattle.proving.specs.declared.Maker.{Maker}
+use Rattle.proving.specs.Plans.{Branched, draftChallenge, draftCommitments, draftResponses, draftBranch, falseComplements, planDraws, answers, proverOf, proofOf}
+use Rattle.jobs.proofs.Lengths.{length-true, length-false, length-branch}
 
 -- a run of blocks around its k-th
 blocks-around : (f : ℕ → List ℕ) (k d : ℕ) → concatBelow (k + 1 + d) f ≡ concatBelow k f ++ (f k ++ concatBelow d (λ j. f (k + 1 + j)))
@@ -82,21 +82,27 @@ module _ (g : Parameters) (claim : ℕ → ℕ → Statement) (plan : Plan) (dra
       more (concatBelow l held) (held l) o out x a (length-blocks l (4 + 12 * plan .statements) held (λ l h. length-held l) ∙ sym ea) eo (b .wrote)
       ∙ rw (blocks-more held l)
 
-module _ (label : List ℕ) (g : Parameters) (claim : ℕ → ℕ → Statement) (plan : Plan) (witness : List Exponent) (draws : List ℕ) where
+module _ (prefix : List ℕ) (g : Parameters) (claim : ℕ → ℕ → Statement) (maker : Maker) (draws : List ℕ) where
+  abbrev plan : Plan
+  plan = maker .plan
+
+  abbrev witness : List Exponent
+  witness = maker .witness
+
   abbrev pr : Prover
-  pr = proverOf claim plan witness draws
+  pr = proverOf claim maker draws
 
   abbrev ts : (l i : ℕ) → List ℕ
   ts l i = committed g pr l i
 
   abbrev es : ℕ → ℕ
-  es l = challengeOf g pr sha256 label l
+  es l = challengeOf g pr sha256 prefix l
 
   abbrev rs : (l i : ℕ) → ℕ
-  rs l i = responseOf g pr sha256 label l i
+  rs l i = responseOf g pr sha256 prefix l i
 
   abbrev c : ℕ
-  c = trueChallenge g pr sha256 label
+  c = trueChallenge g pr sha256 prefix
 
   abbrev first : ℕ → List ℕ
   first = held g claim plan draws
@@ -104,12 +110,12 @@ module _ (label : List ℕ) (g : Parameters) (claim : ℕ → ℕ → Statement)
   final : ℕ → List ℕ
   final l = branchBytes (es l) (plan .statements) (ts l) (rs l)
 
-  proof-is : proofOf label g claim plan witness draws ≡ concatBelow (plan .branches) final
+  proof-is : proofOf prefix g claim maker draws ≡ concatBelow (plan .branches) final
   unfolding proofBytes final branchBytes
   proof-is = refl
 
   same-ts : (l i : ℕ) → ts l i ≡ draftCommitments g claim plan draws l i
-  unfolding commitment draftCommitments truePair falsePair
+  unfolding draftCommitments
   same-ts l i =
       by-cases (eqb l (plan .known))
       (λ e. let k : l ≡ plan .known = eqb-true l (plan .known) e in rw (e, k))
@@ -127,7 +133,7 @@ module _ (label : List ℕ) (g : Parameters) (claim : ℕ → ℕ → Statement)
 
   -- the challenge that is left for the known branch
   pub challenge-is : (e whole sum : ℕ) (digest : List ℕ) →
-      digest ≡ sha256 (label ++ concatBelow (plan .branches) (λ l. concatBelow (plan .statements) (draftCommitments g claim plan draws l))) →
+      digest ≡ sha256 (prefix ++ concatBelow (plan .branches) (λ l. concatBelow (plan .statements) (draftCommitments g claim plan draws l))) →
       whole ≡ number8 digest 0 % g .q → sum ≡ falseComplements (g .q) plan draws (plan .branches) → e ≡ (whole + sum) % g .q → e ≡ c
   unfolding trueChallenge wholeChallenge falseComplements
   challenge-is e whole sum digest ed ew ea ee =
@@ -158,7 +164,7 @@ module _ (label : List ℕ) (g : Parameters) (claim : ℕ → ℕ → Statement)
     pub joined : (o l r : List ℕ) (a e at : ℕ) → a ≡ plan .known * (4 + 12 * plan .statements) → e ≡ c → at ≡ planDraws plan (plan .known) →
         l ≡ written (concatBelow (plan .branches) first) o →
         r ≡ written (branchBytes e (plan .statements) (λ i. part (midOf a (length l - a) l) (4 + 12 * i) 8) (answers (g .q) e witness draws at)) (midOf a (length l - a) l) →
-        putMid a (length l - a) l r ≡ written (proofOf label g claim plan witness draws) o
+        putMid a (length l - a) l r ≡ written (proofOf prefix g claim maker draws) o
     joined o l r a e at ea ee eat el er =
         let x : List ℕ = concatBelow (plan .known) first in
         let old : List ℕ = first (plan .known) in

@@ -1,31 +1,23 @@
 -- How a proof is made, in the terms of the rules.
-use Prim.Native.Nat.{ℕ, _+_, _*_, _-_, _%_, _^_, _≤_, _<_}
+use Prim.Native.Nat.{ℕ, _+_, _*_, _-_, _^_, _≤_, _<_}
 use mathlib.Core.Path.{_≡_}
 use mathlib.Core.Bool.{cond}
 use mathlib.Core.List.{List, _++_}
 use lib.Dec.{eqb}
 use lib.ListN.{length, getD}
 use Rattle.numbers.specs.Below.{sumBelow, concatBelow}
-use Rattle.group.specs.Arithmetic.{powMod}
 use Rattle.rules.specs.Bytes.{bytes4}
 use Rattle.group.specs.Elements.{Parameters}
 use Rattle.group.specs.declared.Exponent.{Exponent}
 use Rattle.rules.specs.Proofs.{Statement}
-use Rattle.jobs.specs.Prover.{Prover, proofBytes, branchDraws, falseCommitment, branchBytes}
+use Rattle.jobs.specs.Prover.{Prover, trueCommitments, falseCommitments, trueResponse, proofBytes, branchDraws, branchBytes}
 use Rattle.sha256.specs.Message.{sha256}
 use Rattle.sha256.specs.Feed.{Fed}
 use Rattle.sha256.specs.declared.Hasher.{Hasher}
 use Rattle.output.specs.Written.{written}
 use Rattle.statements.specs.Claims.{Within}
-use Rattle.statements.specs.declared.claims.Claim.{Claim}
 use Rattle.proving.specs.declared.Plan.{Plan}
-
--- the commitments of a statement in the branch whose witness is known, by its nonce, and in another, by its challenge and response
-unfoldable pub truePair : Parameters → (nonce : ℕ) → List ℕ
-truePair g x = bytes4 (powMod (g .p) (g .g0) x) ++ bytes4 (powMod (g .p) (g .g1) x)
-
-unfoldable pub falsePair : Parameters → Statement → (e r : ℕ) → List ℕ
-falsePair g s e r = bytes4 (falseCommitment g (g .g0) (s .left) e r) ++ bytes4 (falseCommitment g (g .g1) (s .right) e r)
+use Rattle.proving.specs.declared.Maker.{Maker}
 
 -- a statement was written, and its commitments fed
 pub record Stated (t : List ℕ) (r : ℕ) (before after : List ℕ) (h k : Hasher) : Type 0 where
@@ -34,14 +26,14 @@ pub record Stated (t : List ℕ) (r : ℕ) (before after : List ℕ) (h k : Hash
 
 -- of the drawn branch whose draws start at a place
 abbrev pub falseTs : Parameters → (ℕ → Statement) → (draws : List ℕ) (at : ℕ) → ℕ → List ℕ
-falseTs g claim draws at i = falsePair g (claim i) (getD draws at 0) (getD draws (at + 1 + i) 0)
+falseTs g claim draws at i = falseCommitments g (claim i) (getD draws at 0) (getD draws (at + 1 + i) 0)
 
 abbrev pub falseRs : (draws : List ℕ) (at : ℕ) → ℕ → ℕ
 falseRs draws at i = getD draws (at + 1 + i) 0
 
 -- of the known branch
 abbrev pub trueTs : Parameters → (draws : List ℕ) (at : ℕ) → ℕ → List ℕ
-trueTs g draws at i = truePair g (getD draws (at + i) 0)
+trueTs g draws at i = trueCommitments g (getD draws (at + i) 0)
 
 abbrev pub trueRs : (draws : List ℕ) (at : ℕ) → ℕ → ℕ
 trueRs draws at i = getD draws (at + i) 0
@@ -57,7 +49,7 @@ witnessAt witness i = getD witness i (record { 0 = 0 }) .0
 
 -- the responses of the known branch under a challenge
 abbrev pub answers : (q e : ℕ) (witness : List Exponent) (draws : List ℕ) (at : ℕ) → ℕ → ℕ
-answers q e witness draws at i = (getD draws (at + i) 0 + e * witnessAt witness i) % q
+answers q e witness draws at i = trueResponse q (getD draws (at + i) 0) e (witnessAt witness i)
 
 -- where a branch's draws start
 abbrev pub planDraws : Plan → ℕ → ℕ
@@ -75,9 +67,9 @@ pub record PlanDraws (q : ℕ) (plan : Plan) (draws : List ℕ) : Type 0 where
   pub below : (d : ℕ) → d + 1 < plan .from + plan .branches * (1 + plan .statements) → getD draws d 0 < q
 
 -- and the pairs that the claim names stand on the page
-pub record Planned (g : Parameters) (page inverses : List ℕ) (n : ℕ) (claim : Claim) (plan : Plan) (draws : List ℕ) : Type 0 where
+pub record Planned (g : Parameters) (page inverses : List ℕ) (plan : Plan) (draws : List ℕ) : Type 0 where
   pub drawn : PlanDraws (g .q) plan draws
-  pub ready : (l i : ℕ) → l < plan .branches → i < plan .statements → (l ≡ plan .known → ⊥) → Within page inverses g n claim l i
+  pub ready : (l i : ℕ) → l < plan .branches → i < plan .statements → (l ≡ plan .known → ⊥) → Within page inverses g (plan .claim) l i
 
 -- a branch before the known one's challenge is known: 0 stands for it, and the nonces for the responses
 unfoldable pub draftChallenge : Plan → (draws : List ℕ) (l : ℕ) → ℕ
@@ -92,29 +84,29 @@ draftResponses plan draws l i = cond (eqb l (plan .known)) (trueRs draws (planDr
 unfoldable pub draftBranch : Parameters → (ℕ → ℕ → Statement) → Plan → (draws : List ℕ) (l : ℕ) → List ℕ
 draftBranch g claim plan draws l = branchBytes (draftChallenge plan draws l) (plan .statements) (draftCommitments g claim plan draws l) (draftResponses plan draws l)
 
--- every branch was so written, and its commitments fed after the label
-pub record Committed (label : List ℕ) (g : Parameters) (claim : ℕ → ℕ → Statement) (plan : Plan) (draws before after : List ℕ) (k : Hasher) : Type 0 where
+-- every branch was so written, and its commitments fed
+pub record Committed (g : Parameters) (claim : ℕ → ℕ → Statement) (plan : Plan) (draws before after : List ℕ) (h k : Hasher) : Type 0 where
   pub wrote : after ≡ written (concatBelow (plan .branches) (draftBranch g claim plan draws)) before
-  pub fed : Fed k (label ++ concatBelow (plan .branches) (λ l. concatBelow (plan .statements) (draftCommitments g claim plan draws l)))
+  pub fed : (m : List ℕ) → Fed h m → Fed k (m ++ concatBelow (plan .branches) (λ l. concatBelow (plan .statements) (draftCommitments g claim plan draws l)))
 
 unfoldable pub falseComplements : (q : ℕ) → Plan → (draws : List ℕ) → ℕ → ℕ
 falseComplements q plan draws n = sumBelow n (λ l. cond (eqb l (plan .known)) 0 (q - getD draws (planDraws plan l) 0))
 
--- what the rules say of the maker of a proof under a plan
-abbrev pub proverOf : (ℕ → ℕ → Statement) → Plan → (witness : List Exponent) (draws : List ℕ) → Prover
-proverOf claim plan witness draws =
+-- what the rules say of the maker of a proof
+abbrev pub proverOf : (ℕ → ℕ → Statement) → Maker → (draws : List ℕ) → Prover
+proverOf claim maker draws =
     record {
-      branches = plan .branches;
-      statements = plan .statements;
+      branches = maker .plan .branches;
+      statements = maker .plan .statements;
       claim = claim;
-      known = plan .known;
-      witness = witnessAt witness;
+      known = maker .plan .known;
+      witness = witnessAt (maker .witness);
       draw = λ d. getD draws d 0;
-      from = plan .from;
+      from = maker .plan .from;
     }
 
-abbrev pub proofOf : (label : List ℕ) → Parameters → (ℕ → ℕ → Statement) → Plan → (witness : List Exponent) (draws : List ℕ) → List ℕ
-proofOf label g claim plan witness draws = proofBytes g (proverOf claim plan witness draws) sha256 label
+abbrev pub proofOf : (prefix : List ℕ) → Parameters → (ℕ → ℕ → Statement) → Maker → (draws : List ℕ) → List ℕ
+proofOf prefix g claim maker draws = proofBytes g (proverOf claim maker draws) sha256 prefix
 
 -- so many draws from a place on are there, and below q
 pub record DrawsBelow (q : ℕ) (draws : List ℕ) (from count : ℕ) : Type 0 where

@@ -6,16 +6,15 @@ use group::Group;
 use sha256::Hasher;
 use statements::Setup;
 use statements::claims;
-use statements::claims::Claim;
 ghost use mathlib.Core.Path.{_≡_};
-ghost use Prim.Native.Nat.{ℕ, _+_, _*_, _%_, _^_, _≤_, _<_};
+ghost use Prim.Native.Nat.{ℕ, _+_, _*_, _^_, _≤_, _<_};
 ghost use lib.ListN.{length, getD};
 ghost use Rattle.group.specs.Elements.{parametersOf};
 ghost use Rattle.rules.specs.Bytes.{part};
 ghost use Rattle.statements.specs.Values.{Ready};
 ghost use Rattle.statements.specs.Claims.{claimOf, Within};
 ghost use Rattle.output.specs.Written.{written};
-ghost use Rattle.jobs.specs.Prover.{branchBytes};
+ghost use Rattle.jobs.specs.Prover.{trueResponse, branchBytes};
 ghost use Rattle.proving.specs.Plans.{Branched, answers, planDraws, Planned, draftChallenge, draftCommitments, draftResponses, falseTs, falseRs, trueTs, trueRs};
 
 // Where a branch's draws start.
@@ -30,6 +29,13 @@ pub fn branch_draws(plan: Plan, l: usize) -> usize
     at
 }
 
+// Branch l of a plan, and where its draws start.
+pub struct Branch {
+    pub plan: Plan,
+    pub l: usize,
+    pub at: usize,
+}
+
 // A branch whose witness is not known: its challenge and responses are drawn.
 fn false_branch(
     out: &mut [u8],
@@ -37,25 +43,25 @@ fn false_branch(
     g: Setup,
     page: &[u8],
     inverses: &[u32],
-    plan: Plan,
-    l: usize,
+    branch: Branch,
     draws: &[u32],
-    at: usize,
 ) -> Hasher
-    requires { ⌜ Ready g × (plan .statements < 100) × (4 + 12 * plan .statements ≤ length (now out)) × (at + 1 + plan .statements ≤ length (now draws)) ⌝ }
-    requires { ⌜ getD (now draws) at 0 < g .group .q ⌝ }
-    requires { ⌜ ((i : ℕ) → i < plan .statements → Within (now page) (now inverses) (parametersOf (g .group)) (plan .n) (plan .claim) l i) ⌝ }
-    ensures { λ k. ⌜ Branched (getD (now (draws .entry)) at 0) (plan .statements) (falseTs (parametersOf (g .group)) (claimOf (now (page .entry)) (parametersOf (g .group)) (plan .n) (plan .claim) l) (now (draws .entry)) at) (falseRs (now (draws .entry)) at) (now (out .entry)) (now (out .exit)) h k ⌝ }
+    requires { ⌜ Ready g × (branch .plan .statements < 100) × (4 + 12 * branch .plan .statements ≤ length (now out)) × (branch .at + 1 + branch .plan .statements ≤ length (now draws)) ⌝ }
+    requires { ⌜ getD (now draws) (branch .at) 0 < g .group .q ⌝ }
+    requires { ⌜ ((i : ℕ) → i < branch .plan .statements → Within (now page) (now inverses) (parametersOf (g .group)) (branch .plan .claim) (branch .l) i) ⌝ }
+    ensures { λ k. ⌜ Branched (getD (now (draws .entry)) (branch .at) 0) (branch .plan .statements) (falseTs (parametersOf (g .group)) (claimOf (now (page .entry)) (parametersOf (g .group)) (branch .plan .claim) (branch .l)) (now (draws .entry)) (branch .at)) (falseRs (now (draws .entry)) (branch .at)) (now (out .entry)) (now (out .exit)) h k ⌝ }
 {
     let group = g.group;
-    let n = plan.n;
+    let plan = branch.plan;
     let claim = plan.claim;
     let statements = plan.statements;
+    let l = branch.l;
+    let at = branch.at;
     let e = draws[at];
     output::put_number4(out, e);
     let mut k = h;
     for i in 0..statements {
-        let s = claims::claimed(page, inverses, g, n, claim, l, i);
+        let s = claims::claimed(page, inverses, g, claim, l, i);
         let place = 4 + 12 * i;
         let r = draws[at + 1 + i];
         let next = statement::put_false(&mut out[place..], k, group, s, Exponent(e), Exponent(r));
@@ -87,34 +93,30 @@ fn true_branch(
     k
 }
 
-// Branch l, before the known one's challenge is known.
+// A branch before the known one's challenge is known.
 pub fn commit_branch(
     out: &mut [u8],
     h: Hasher,
     g: Setup,
     page: &[u8],
     inverses: &[u32],
-    plan: Plan,
-    l: usize,
+    branch: Branch,
     draws: &[u32],
 ) -> Hasher
-    requires { ⌜ Ready g × Planned (parametersOf (g .group)) (now page) (now inverses) (plan .n) (plan .claim) plan (now draws) ⌝ }
-    requires { ⌜ (l < plan .branches) × (4 + 12 * plan .statements ≤ length (now out)) ⌝ }
-    ensures { λ k. ⌜ Branched (draftChallenge plan (now (draws .entry)) l) (plan .statements) (draftCommitments (parametersOf (g .group)) (claimOf (now (page .entry)) (parametersOf (g .group)) (plan .n) (plan .claim)) plan (now (draws .entry)) l) (draftResponses plan (now (draws .entry)) l) (now (out .entry)) (now (out .exit)) h k ⌝ }
+    requires { ⌜ Ready g × Planned (parametersOf (g .group)) (now page) (now inverses) (branch .plan) (now draws) ⌝ }
+    requires { ⌜ (branch .l < branch .plan .branches) × (branch .at ≡ planDraws (branch .plan) (branch .l)) × (4 + 12 * branch .plan .statements ≤ length (now out)) ⌝ }
+    ensures { λ k. ⌜ Branched (draftChallenge (branch .plan) (now (draws .entry)) (branch .l)) (branch .plan .statements) (draftCommitments (parametersOf (g .group)) (claimOf (now (page .entry)) (parametersOf (g .group)) (branch .plan .claim)) (branch .plan) (now (draws .entry)) (branch .l)) (draftResponses (branch .plan) (now (draws .entry)) (branch .l)) (now (out .entry)) (now (out .exit)) h k ⌝ }
 {
-    let group = g.group;
-    let at = branch_draws(plan, l);
-    let statements = plan.statements;
-    let known = plan.known;
-    if l == known {
-        return true_branch(out, h, group, statements, draws, at);
+    if branch.l == branch.plan.known {
+        let group = g.group;
+        return true_branch(out, h, group, branch.plan.statements, draws, branch.at);
     }
-    false_branch(out, h, g, page, inverses, plan, l, draws, at)
+    false_branch(out, h, g, page, inverses, branch, draws)
 }
 
 fn response(q: u32, e: Exponent, nonce: Exponent, witness: Exponent) -> Exponent
     requires { ⌜ 0 < q ⌝ }
-    ensures { λ r. ⌜ r .0 ≡ (nonce .0 + e .0 * witness .0) % q ⌝ }
+    ensures { λ r. ⌜ r .0 ≡ trueResponse q (nonce .0) (e .0) (witness .0) ⌝ }
 {
     group::add(q, nonce, group::mul_exp(q, e, witness))
 }

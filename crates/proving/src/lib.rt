@@ -1,12 +1,15 @@
 // A proof made in its place on the board by one who knows the witness of one branch: the commitments are fed to the hash as they arise, and the
 // true branch's challenge and responses are written last.
+use crate::branch::Branch;
 use group::Exponent;
 use sha256::Hasher;
 use statements::Setup;
 use statements::claims::Claim;
 ghost use mathlib.Core.Path.{_≡_};
-ghost use Prim.Native.Nat.{_+_, _*_, _^_, _≤_, _<_};
+ghost use Prim.Native.Nat.{ℕ, _+_, _*_, _^_, _≤_, _<_};
+ghost use mathlib.Core.List.{List};
 ghost use lib.ListN.{length};
+ghost use Rattle.sha256.specs.Feed.{Fed};
 ghost use Rattle.group.specs.Elements.{parametersOf};
 ghost use Rattle.statements.specs.Values.{Ready};
 ghost use Rattle.statements.specs.Claims.{claimOf};
@@ -16,14 +19,19 @@ ghost use Rattle.proving.specs.Plans.{PlanDraws, Planned, Committed, fal
 mod branch;
 mod statement;
 
-// A proof to be made: its size, the branch whose witness is known, where its draws start, and what it claims of matrices of n columns.
+// A proof to be made: its size, the branch whose witness is known, where its draws start, and what it claims.
 pub struct Plan {
     pub branches: usize,
     pub statements: usize,
     pub known: usize,
     pub from: usize,
-    pub n: usize,
     pub claim: Claim,
+}
+
+// One who makes it, and knows the witnesses of the known branch: they stand first among the 64.
+pub struct Maker {
+    pub plan: Plan,
+    pub witness: [Exponent; 64],
 }
 
 // What the drawn challenges take from the whole one: the sum of their distances to q.
@@ -43,52 +51,54 @@ fn false_complements(q: u32, plan: Plan, draws: &[u32]) -> u64
     sum
 }
 
-// Every branch as it is before the known one's challenge is known; the commitments are fed to the hash after the label.
+// Every branch as it is before the known one's challenge is known; the commitments are fed to the hash after the prefix.
 fn commit(
     out: &mut [u8],
-    label: &[u8],
+    prefix: Hasher,
     g: Setup,
     page: &[u8],
     inverses: &[u32],
     plan: Plan,
     draws: &[u32],
 ) -> Hasher
-    requires { ⌜ Ready g × Planned (parametersOf (g .group)) (now page) (now inverses) (plan .n) (plan .claim) plan (now draws) ⌝ }
+    requires { ⌜ Ready g × Planned (parametersOf (g .group)) (now page) (now inverses) plan (now draws) ⌝ }
     requires { ⌜ plan .branches * (4 + 12 * plan .statements) ≤ length (now out) ⌝ }
-    ensures { λ k. ⌜ Committed (now (label .entry)) (parametersOf (g .group)) (claimOf (now (page .entry)) (parametersOf (g .group)) (plan .n) (plan .claim)) plan (now (draws .entry)) (now (out .entry)) (now (out .exit)) k ⌝ }
+    ensures { λ k. ⌜ Committed (parametersOf (g .group)) (claimOf (now (page .entry)) (parametersOf (g .group)) (plan .claim)) plan (now (draws .entry)) (now (out .entry)) (now (out .exit)) prefix k ⌝ }
 {
     let branches = plan.branches;
     let width = 4 + 12 * plan.statements;
-    let first = Hasher::new();
-    let mut h = first.update(label);
+    let mut h = prefix;
     for l in 0..branches {
         let place = l * width;
-        let next = branch::commit_branch(&mut out[place..], h, g, page, inverses, plan, l, draws);
+        let at = branch::branch_draws(plan, l);
+        let branch = Branch { plan, l, at };
+        let next = branch::commit_branch(&mut out[place..], h, g, page, inverses, branch, draws);
         h = next;
     }
     h
 }
 
-// A whole proof of a claim about matrices of n columns that stand on a page. What the known branch's statements are does not matter: it is
-// made from their witnesses, which stand first among the 64.
+// A whole proof of a claim about pairs that stand on a page, under a prefix fed to the hasher. What the known branch's statements are does not matter: it is
+// made from their witnesses.
 pub fn make(
     out: &mut [u8],
-    label: &[u8],
+    prefix: Hasher,
     g: Setup,
     page: &[u8],
     inverses: &[u32],
-    plan: Plan,
-    witness: [Exponent; 64],
+    maker: Maker,
     draws: &[u32],
 )
-    requires { ⌜ Ready g × Planned (parametersOf (g .group)) (now page) (now inverses) (plan .n) (plan .claim) plan (now draws) ⌝ }
-    requires { ⌜ (plan .branches * (4 + 12 * plan .statements) ≤ length (now out)) × (plan .statements ≤ 64) ⌝ }
-    ensures { λ _. ⌜ now (out .exit) ≡ written (proofOf (now (label .entry)) (parametersOf (g .group)) (claimOf (now (page .entry)) (parametersOf (g .group)) (plan .n) (plan .claim)) plan witness (now (draws .entry))) (now (out .entry)) ⌝ }
+    requires { ⌜ Ready g × Planned (parametersOf (g .group)) (now page) (now inverses) (maker .plan) (now draws) ⌝ }
+    requires { ⌜ (maker .plan .branches * (4 + 12 * maker .plan .statements) ≤ length (now out)) × (maker .plan .statements ≤ 64) ⌝ }
+    ensures { λ _. ⌜ ((m : List ℕ) → Fed prefix m → now (out .exit) ≡ written (proofOf m (parametersOf (g .group)) (claimOf (now (page .entry)) (parametersOf (g .group)) (maker .plan .claim)) maker (now (draws .entry))) (now (out .entry))) ⌝ }
 {
+    let plan = maker.plan;
+    let witness = maker.witness;
     let statements = plan.statements;
     let known = plan.known;
     let q = g.group.q;
-    let h = commit(out, label, g, page, inverses, plan, draws);
+    let h = commit(out, prefix, g, page, inverses, plan, draws);
     let sum = false_complements(q, plan, draws);
     let digest = h.finish();
     let whole = fields::challenge(&digest, q);

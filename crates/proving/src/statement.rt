@@ -10,9 +10,9 @@ ghost use Prim.Native.Nat.{_≤_, _<_};
 ghost use lib.ListN.{length};
 ghost use Rattle.group.specs.Elements.{parametersOf};
 ghost use Rattle.rules.specs.Bytes.{bytes4};
-ghost use Rattle.jobs.specs.Prover.{falseCommitment};
+ghost use Rattle.jobs.specs.Prover.{falseCommitment, trueCommitments, falseCommitments};
 ghost use Rattle.statements.specs.Values.{statementOf};
-ghost use Rattle.proving.specs.Plans.{truePair, falsePair, Stated};
+ghost use Rattle.proving.specs.Plans.{Stated};
 
 // A false branch's commitment follows from its equation.
 fn commitment(g: Group, base: Element, side: Element, e: Exponent, r: Exponent) -> Element
@@ -49,7 +49,7 @@ pub fn put_false(
     r: Exponent,
 ) -> Hasher
     requires { ⌜ (12 ≤ length (now out)) × (0 < g .p) × (e .0 < g .q) ⌝ }
-    ensures { λ k. ⌜ Stated (falsePair (parametersOf g) (statementOf s) (e .0) (r .0)) (r .0) (now (out .entry)) (now (out .exit)) h k ⌝ }
+    ensures { λ k. ⌜ Stated (falseCommitments (parametersOf g) (statementOf s) (e .0) (r .0)) (r .0) (now (out .entry)) (now (out .exit)) h k ⌝ }
 {
     let g0 = g.g0;
     let g1 = g.g1;
@@ -61,7 +61,7 @@ pub fn put_false(
 // Of the branch whose witness is known; the nonce stands for the response.
 pub fn put_true(out: &mut [u8], h: Hasher, g: Group, nonce: Exponent) -> Hasher
     requires { ⌜ (12 ≤ length (now out)) × (0 < g .p) ⌝ }
-    ensures { λ k. ⌜ Stated (truePair (parametersOf g) (nonce .0)) (nonce .0) (now (out .entry)) (now (out .exit)) h k ⌝ }
+    ensures { λ k. ⌜ Stated (trueCommitments (parametersOf g) (nonce .0)) (nonce .0) (now (out .entry)) (now (out .exit)) h k ⌝ }
 {
     let g0 = g.g0;
     let g1 = g.g1;

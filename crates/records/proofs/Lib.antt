@@ -1,7 +1,7 @@
 -- Laws that the proofs of `records`, and its users, cite.
-pub mod Places
 pub mod Framing
 pub mod HeaderTable
 pub mod BallotTables
+pub mod Products
 pub mod SheetTable
 pub mod SheetSteps

@@ -1,6 +1,6 @@
 -- What a sheet comes to, by its out field, and what is read of it, one process at a time.
 use Prim.Native.Nat.{ℕ, _+_, _≤_, _<_}
-use mathlib.Core.Path.{_≡_, refl, sym, ap, _∙_}
+use mathlib.Core.Path.{_≡_, refl, ap, _∙_}
 use mathlib.Core.Bool.{true, false, cond}
 use mathlib.Core.List.{List}
 use native.Mathlib.Omega.{arith}
@@ -10,7 +10,7 @@ use borrow.Author.Count.{below-more}
 use borrow.Author.Tests.{eq-eqb, ne-eqb}
 use Rattle.group.specs.declared.Exponent.{Exponent}
 use Rattle.rules.specs.Count.{Result, ended, leaves, closes}
-use Rattle.rules.specs.Check.{firstFault}
+use Rattle.rules.specs.Tests.{firstFault}
 use Rattle.rules.specs.Answers.{refusalNumber}
 use Rattle.rules.specs.declared.Refusal.{Refusal}
 use Rattle.rules.specs.declared.Refusal.the-variants as R
@@ -29,9 +29,9 @@ exponents-more f xs i x l h e =
     (ap (λ (y : Exponent). y .0) (getD-set-same xs i x _ l) ∙ e)
 
 module _ (n k : ℕ) (c : Count) (cs : List ℕ) where
-  pub refused-step : (f : ℕ) (w : Refusal) → refusalNumber w ≡ f → Stepped n k c cs f (Refused w) c
+  pub refused-step : (f : ℕ) (w : Refusal) → f ≡ refusalNumber w → Stepped n k c cs f (Refused w) c
   unfolding Stepped
-  refused-step f w e = (sym e, refl)
+  refused-step f w e = (e, refl)
 
   -- what the out field is to hold
   abbrev due : ℕ

@@ -7,7 +7,8 @@ use Rattle.sha256.specs.Message.{sha256}
 use Rattle.group.specs.Elements.{parametersOf}
 use Rattle.rules.specs.Bytes.{part}
 use Rattle.rules.specs.Records.{headerLength}
-use Rattle.rules.specs.Check.{Header, header, headerFault}
+use Rattle.rules.specs.Header.{Header, header, headerFault}
+use Rattle.rules.specs.declared.Model.{Model}
 use Rattle.rules.specs.Answers.{refusalNumber}
 use Rattle.statements.specs.Values.{Ready}
 use Rattle.records.specs.declared.Head.{Head}
@@ -17,15 +18,16 @@ use Rattle.records.specs.declared.header.HeaderRead.the-variants.{Board,
 abbrev pub headOf : (s : List ℕ) → Head → Header
 headOf s h = record { n = h .n; K = h .k; group = parametersOf (h .setup .group); label = part s 22 32 }
 
-pub record HeaderKnown (s : List ℕ) (h : Head) : Type 0 where
+-- on a board of a model
+pub record HeaderKnown (model : Model) (s : List ℕ) (h : Head) : Type 0 where
   pub ready : Ready (h .setup)
-  pub low : 2 ≤ h .n
-  pub high : h .n ≤ 8
+  pub low : model .least ≤ h .n
+  pub high : h .n ≤ model .most
   pub some : 1 ≤ h .k
-  pub few : h .k ≤ 1000
+  pub few : h .k ≤ model .ballots
   pub long : headerLength ≤ length s
 
--- what opening a board tells
-unfoldable pub HeaderReads : (s : List ℕ) → HeaderRead → Type 0
-HeaderReads s (Board h) = (headerFault sha256 s ≡ 0) × (headOf s h ≡ header s) × HeaderKnown s h
-HeaderReads s (Refused w) = headerFault sha256 s ≡ refusalNumber w
+-- what reading the header of a board of a model tells
+unfoldable pub HeaderReads : Model → (s : List ℕ) → HeaderRead → Type 0
+HeaderReads model s (Board h) = (headerFault sha256 model s ≡ 0) × (headOf s h ≡ header s) × HeaderKnown model s h
+HeaderReads model s (Refused w) = headerFault sha256 model s ≡ refusalNumber w

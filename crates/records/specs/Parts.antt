@@ -1,19 +1,21 @@
--- The parts of a record's tests, at the place where the record starts.
-use Prim.Native.Nat.{ℕ, _+_, _*_, _/_, _%_}
+-- The parts of a record's tests, as the code goes through them, at the place where the record starts.
+use Prim.Native.Nat.{ℕ, _+_, _*_}
 use mathlib.Core.List.{List}
 use mathlib.Core.Bool.{Bool, _&&_}
 use lib.Dec.{eqb, leb, ltb}
-use Rattle.numbers.specs.Below.{allBelow, prodBelow}
+use Rattle.numbers.specs.Below.{allBelow}
 use Rattle.sha256.specs.Message.{sha256}
 use Rattle.group.specs.Arithmetic.{powMod}
-use Rattle.group.specs.Elements.{parametersOf}
+use Rattle.group.specs.Elements.{Parameters, parametersOf}
 use Rattle.rules.specs.Group.{paired}
-use Rattle.rules.specs.Bytes.{number4, number2, part}
+use Rattle.rules.specs.Bytes.{number4, number2}
 use Rattle.rules.specs.Claims.{matrixAt, entryClaim, rowClaim, columnClaim, shiftClaim}
-use Rattle.rules.specs.Proofs.{Statement, proofFields, proofHolds}
+use Rattle.rules.specs.Proofs.{Statement, proofFields}
+use Rattle.rules.specs.Ballot.{holdsAt}
 use Rattle.statements.specs.Lines.{byLine}
 use Rattle.statements.specs.Walks.{pairsFields}
 use Rattle.records.specs.declared.Head.{Head}
+use Rattle.records.specs.Heads.{headOf}
 
 -- the pairs of a BA or SH record, and the branches of its proofs
 abbrev pub fieldsAt : (s : List ℕ) (at pairs branches statements p q : ℕ) → Bool
@@ -25,13 +27,13 @@ ballotFieldsAt s n p q at = fieldsAt s at (n * n) (n * n * 2 + (n + n)) 1 p q
 
 -- a proof under the board's label
 abbrev pub proofAt : (s : List ℕ) (h : Head) (at branches statements : ℕ) → (ℕ → ℕ → Statement) → Bool
-proofAt s h at branches statements claim = proofHolds s at branches statements sha256 (part s 22 32) (parametersOf (h .setup .group)) claim
+proofAt s h at branches statements claim = holdsAt sha256 s (headOf s h) at branches statements claim
 
--- entry t, by rows
+-- entry t, by rows: of the t-th pair
 abbrev pub entryGood : (s : List ℕ) (h : Head) (at t : ℕ) → Bool
 entryGood s h at t =
     proofAt s h (at + 4 + 8 * (h .n * h .n) + 32 * t) 2 1
-    (λ l _. entryClaim (parametersOf (h .setup .group)) (matrixAt s (h .n) at) (t / h .n) (t % h .n) l)
+    (λ l _. entryClaim (parametersOf (h .setup .group)) (number4 s (at + 4 + 8 * t)) (number4 s (at + 4 + 8 * t + 4)) l)
 
 -- row t, or column t - n
 abbrev pub lineGood : (s : List ℕ) (h : Head) (at t : ℕ) → Bool
@@ -55,9 +57,6 @@ shiftProofAt s h before at rows a =
 abbrev pub countGood : (s : List ℕ) (k q at i : ℕ) → Bool
 countGood s k q at i = leb (number2 s (at + 4 + 6 * i)) k && ltb (number4 s (at + 6 + 6 * i)) q
 
--- column i of a round whose ballots start at first, size bytes apart, with the count and the exponent that its sheet has for it
-abbrev pub tallyAt : (s : List ℕ) (h : Head) (first size i count x : ℕ) → Bool
-tallyAt s h first size i count x =
-    eqb (prodBelow (h .k) (λ k. number4 s (first + 4 + 8 * i + size * k)) % h .setup .group .p) (paired (parametersOf (h .setup .group)) x count)
-    && eqb (prodBelow (h .k) (λ k. number4 s (first + 4 + 8 * i + 4 + size * k)) % h .setup .group .p)
-    (powMod (h .setup .group .p) (h .setup .group .g1 .0) x)
+-- a column's products modulo p, with the count and the exponent that its sheet has for it
+abbrev pub columnTallies : Parameters → (b y count x : ℕ) → Bool
+columnTallies g b y count x = eqb b (paired g x count) && eqb y (powMod (g .p) (g .g1) x)

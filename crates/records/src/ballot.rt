@@ -1,22 +1,25 @@
 // The BA record.
 use crate::Fault;
 use crate::Head;
+use crate::Passed;
 use crate::frames;
 use rules::Refusal;
+use statements::claims;
 use statements::claims::Claim;
 ghost use mathlib.Core.Path.{_≡_};
-ghost use Prim.Native.Nat.{ℕ, _+_, _*_, _-_, _/_, _%_, _≤_, _<_};
+ghost use Prim.Native.Nat.{_+_, _*_, _≤_};
 ghost use lib.ListN.{length};
 ghost use Rattle.numbers.specs.Below.{allBelow};
 ghost use Rattle.sha256.specs.Message.{sha256};
-ghost use Rattle.rules.specs.Records.{recordAt, ballotLength};
-ghost use Rattle.rules.specs.Check.{recordFault};
+ghost use Rattle.rules.specs.Records.{ballotLength};
+ghost use Rattle.rules.specs.Header.{ranked};
+ghost use Rattle.rules.specs.Ballot.{ballotFault};
 ghost use Rattle.records.specs.Heads.{headOf, HeaderKnown};
-ghost use Rattle.records.specs.Faults.{faultNumber};
+ghost use Rattle.records.specs.Faults.{Passes};
 ghost use Rattle.records.specs.Parts.{entryGood, lineGood, ballotProofsAt};
 
 fn entries_good(board: &[u8], h: Head, at: usize) -> bool
-    requires { ⌜ HeaderKnown (now board) h × (at + ballotLength (h .n) ≤ length (now board)) ⌝ }
+    requires { ⌜ HeaderKnown ranked (now board) h × (at + ballotLength (h .n) ≤ length (now board)) ⌝ }
     ensures { λ r. ⌜ r ≡ allBelow (h .n * h .n) (entryGood (now (board .entry)) h at) ⌝ }
 {
     let head = h;
@@ -25,11 +28,7 @@ fn entries_good(board: &[u8], h: Head, at: usize) -> bool
     let first = at + 4 + 8 * (n * n);
     let count = n * n;
     for t in 0..count {
-        let claim = Claim::Entry {
-            at,
-            i: t / n,
-            j: t % n,
-        };
+        let claim = Claim::Entry { at: at + 4 + 8 * t };
         if !crate::proof_good(board, &no_inverses, first + 32 * t, 2, 1, head, claim) {
             return false;
         }
@@ -39,7 +38,7 @@ fn entries_good(board: &[u8], h: Head, at: usize) -> bool
 
 // The proofs of the rows and the columns.
 fn lines_good(board: &[u8], h: Head, at: usize) -> bool
-    requires { ⌜ HeaderKnown (now board) h × (at + ballotLength (h .n) ≤ length (now board)) ⌝ }
+    requires { ⌜ HeaderKnown ranked (now board) h × (at + ballotLength (h .n) ≤ length (now board)) ⌝ }
     ensures { λ r. ⌜ r ≡ allBelow (h .n + h .n) (lineGood (now (board .entry)) h at) ⌝ }
 {
     let head = h;
@@ -48,7 +47,12 @@ fn lines_good(board: &[u8], h: Head, at: usize) -> bool
     let first = at + 4 + 40 * (n * n);
     let count = n + n;
     for t in 0..count {
-        let claim = Claim::Line { at, t };
+        let line = claims::line_of(n, t);
+        let claim = Claim::Line {
+            at: at + 4 + 8 * line.start,
+            stride: 8 * line.stride,
+            count: n,
+        };
         if !crate::proof_good(board, &no_inverses, first + 16 * t, 1, 1, head, claim) {
             return false;
         }
@@ -57,7 +61,7 @@ fn lines_good(board: &[u8], h: Head, at: usize) -> bool
 }
 
 fn ballot_proofs(board: &[u8], h: Head, at: usize) -> bool
-    requires { ⌜ HeaderKnown (now board) h × (at + ballotLength (h .n) ≤ length (now board)) ⌝ }
+    requires { ⌜ HeaderKnown ranked (now board) h × (at + ballotLength (h .n) ≤ length (now board)) ⌝ }
     ensures { λ r. ⌜ r ≡ ballotProofsAt (now (board .entry)) h at ⌝ }
 {
     if !entries_good(board, h, at) {
@@ -66,23 +70,24 @@ fn ballot_proofs(board: &[u8], h: Head, at: usize) -> bool
     lines_good(board, h, at)
 }
 
-// Ballot k's record, at its place.
-pub fn ballot_fault(board: &[u8], h: Head, at: usize, k: usize) -> Fault
-    requires { ⌜ HeaderKnown (now board) h × (at ≤ length (now board)) × (k < 1000) × (at ≡ recordAt (h .n) (h .k) 0 k) ⌝ }
-    ensures { λ r. ⌜ ((a : ℕ) → faultNumber r ≡ recordFault sha256 (now (board .entry)) (headOf (now (board .entry)) h) a 0 k) ⌝ }
+// The record of the ballot with a number, at its place.
+pub fn read_ballot(board: &[u8], h: Head, at: usize, number: usize) -> Passed
+    requires { ⌜ HeaderKnown ranked (now board) h × (at ≤ length (now board)) ⌝ }
+    ensures { λ r. ⌜ Passes (now (board .entry)) (ballotFault sha256 (now (board .entry)) (headOf (now (board .entry)) h) at number) (at + ballotLength (h .n)) r ⌝ }
 {
     let n = h.n;
     let group = h.setup.group;
-    let framed = frames::ballot_frame(board, at, layout::ballot_length(n), layout::BA, k + 1);
+    let size = layout::ballot_length(n);
+    let framed = frames::ballot_frame(board, at, size, layout::BA, number);
     if let Fault::Refused(why) = framed {
-        return Fault::Refused(why);
+        return Passed::Refused(why);
     }
     let branches = n * n * 2 + (n + n);
     if !crate::fields_good(board, at, n * n, branches, 1, group.p, group.q) {
-        return Fault::Refused(Refusal::Field);
+        return Passed::Refused(Refusal::Field);
     }
     if !ballot_proofs(board, h, at) {
-        return Fault::Refused(Refusal::Proof);
+        return Passed::Refused(Refusal::Proof);
     }
-    Fault::Sound
+    Passed::To(at + size)
 }

@@ -6,7 +6,7 @@ ghost use Prim.Native.Nat.{_+_, _≤_, _<_};
 ghost use lib.ListN.{length, getD};
 ghost use Rattle.rules.specs.Bytes.{number2};
 ghost use Rattle.rules.specs.Records.{RT, hasMark, sheetLength};
-ghost use Rattle.records.specs.Faults.{Framed};
+ghost use Rattle.records.specs.Faults.{Begun, Framed};
 
 pub fn has_mark(board: &[u8], at: usize, mark: [u8; 2]) -> bool
     requires { ⌜ at + 2 ≤ length (now board) ⌝ }
@@ -35,16 +35,28 @@ pub fn byte(board: &[u8], at: usize) -> usize
     numbers::wide(board[at])
 }
 
-// A BA or SH record: its length, mark and number.
-pub fn ballot_frame(board: &[u8], at: usize, size: usize, mark: [u8; 2], due: usize) -> Fault
+// Any record: its length and mark.
+fn begins(board: &[u8], at: usize, size: usize, mark: [u8; 2]) -> Fault
     requires { ⌜ (at ≤ length (now board)) × (4 ≤ size) ⌝ }
-    ensures { λ r. ⌜ Framed (now (board .entry)) at size mark (number2 (now (board .entry)) (at + 2)) due r ⌝ }
+    ensures { λ r. ⌜ Begun (now (board .entry)) at size mark r ⌝ }
 {
     if board.len() - at < size {
         return Fault::Refused(Refusal::Length);
     }
     if !has_mark(board, at, mark) {
         return Fault::Refused(Refusal::Mark);
+    }
+    Fault::Sound
+}
+
+// A BA or SH record: its length, mark and number.
+pub fn ballot_frame(board: &[u8], at: usize, size: usize, mark: [u8; 2], due: usize) -> Fault
+    requires { ⌜ (at ≤ length (now board)) × (4 ≤ size) ⌝ }
+    ensures { λ r. ⌜ Framed (now (board .entry)) at size mark (number2 (now (board .entry)) (at + 2)) due r ⌝ }
+{
+    let begun = begins(board, at, size, mark);
+    if let Fault::Refused(why) = begun {
+        return Fault::Refused(why);
     }
     if number(board, at + 2) != due {
         return Fault::Refused(Refusal::Number);
@@ -57,11 +69,9 @@ pub fn sheet_frame(board: &[u8], at: usize, n: usize, round: usize) -> Fault
     requires { ⌜ (at ≤ length (now board)) × (n ≤ 8) ⌝ }
     ensures { λ r. ⌜ Framed (now (board .entry)) at (sheetLength n) RT (getD (now (board .entry)) (at + 2) 0) round r ⌝ }
 {
-    if board.len() - at < layout::sheet_length(n) {
-        return Fault::Refused(Refusal::Length);
-    }
-    if !has_mark(board, at, layout::RT) {
-        return Fault::Refused(Refusal::Mark);
+    let begun = begins(board, at, layout::sheet_length(n), layout::RT);
+    if let Fault::Refused(why) = begun {
+        return Fault::Refused(why);
     }
     if byte(board, at + 2) != round {
         return Fault::Refused(Refusal::Number);

@@ -2,14 +2,15 @@
 use crate::Head;
 use crate::frames;
 use group::Group;
+use rules::Model;
 use rules::Refusal;
 use statements::Setup;
 ghost use mathlib.Core.Path.{_≡_};
-ghost use Prim.Native.Nat.{_-_, _≤_, _<_};
+ghost use Prim.Native.Nat.{_≤_};
 ghost use lib.ListN.{length};
 ghost use Rattle.group.specs.Elements.{parametersOf};
 ghost use Rattle.rules.specs.Records.{headerLength};
-ghost use Rattle.rules.specs.Check.{header};
+ghost use Rattle.rules.specs.Header.{header};
 ghost use Rattle.records.specs.Heads.{HeaderReads};
 
 pub enum HeaderRead {
@@ -30,19 +31,21 @@ fn shown(board: &[u8]) -> Group
     }
 }
 
-pub fn read_header(board: &[u8]) -> HeaderRead
-    ensures { λ r. ⌜ HeaderReads (now (board .entry)) r ⌝ }
+// The record that a board of a model starts with.
+pub fn read_header(board: &[u8], model: Model) -> HeaderRead
+    ensures { λ r. ⌜ HeaderReads model (now (board .entry)) r ⌝ }
 {
+    let mark = model.mark;
     if board.len() < layout::HEADER_LENGTH {
         return HeaderRead::Refused(Refusal::Length);
     }
-    if !frames::has_mark(board, 0, layout::HD) {
+    if !frames::has_mark(board, 0, mark) {
         return HeaderRead::Refused(Refusal::Mark);
     }
     let n = frames::byte(board, 2);
     let k = frames::number(board, 3);
     let group = shown(board);
-    if !parameters::sizes_good(n, k) {
+    if !parameters::sizes_good(model, n, k) {
         return HeaderRead::Refused(Refusal::Sizes);
     }
     if !parameters::orders_good(n, k, group.p, group.q) {

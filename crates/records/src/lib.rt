@@ -1,8 +1,10 @@
 // The records of a board, each with its tests in the table's order: the frame (1, 2, 6), the fields (7, 9), the proofs and equations (8, 10, 11).
 use rules::Refusal;
+use sha256::Hasher;
 use statements::Setup;
 use statements::claims::Claim;
 use statements::proof;
+use statements::proof::Bases;
 use statements::proof::Shape;
 use statements::walks;
 use statements::walks::Walk;
@@ -11,10 +13,10 @@ ghost use Prim.Native.Nat.{ℕ, _+_, _*_, _≤_, _<_};
 ghost use lib.ListN.{length};
 ghost use Rattle.sha256.specs.Message.{sha256};
 ghost use Rattle.group.specs.Elements.{parametersOf};
-ghost use Rattle.rules.specs.Bytes.{part};
-ghost use Rattle.rules.specs.Proofs.{proofHolds};
+ghost use Rattle.rules.specs.Header.{ranked};
+ghost use Rattle.rules.specs.Ballot.{holdsAt};
 ghost use Rattle.statements.specs.Claims.{claimOf, Within};
-ghost use Rattle.records.specs.Heads.{HeaderKnown};
+ghost use Rattle.records.specs.Heads.{headOf, HeaderKnown};
 ghost use Rattle.records.specs.Parts.{fieldsAt};
 
 pub mod ballot;
@@ -22,8 +24,15 @@ mod frames;
 pub mod header;
 pub mod sheet;
 pub mod shift;
+pub mod tally;
 
-// What the tests of a record find.
+// What the tests of a BA or SH record come to: the place after it, or the refusal.
+pub enum Passed {
+    To(usize),
+    Refused(Refusal),
+}
+
+// What some tests of a record find.
 pub enum Fault {
     Sound,
     Refused(Refusal),
@@ -58,7 +67,7 @@ fn fields_good(
     true
 }
 
-// A proof on the board, under the board's label.
+// A proof on the board, at the bases g0 and g1; the prefix of its message is the board's label.
 fn proof_good(
     board: &[u8],
     inverses: &[u32],
@@ -68,16 +77,22 @@ fn proof_good(
     h: Head,
     claim: Claim,
 ) -> bool
-    requires { ⌜ HeaderKnown (now board) h ⌝ }
+    requires { ⌜ HeaderKnown ranked (now board) h ⌝ }
     requires { ⌜ at + branches * (4 + 12 * statements) ≤ length (now board) ⌝ }
-    requires { ⌜ ((l i : ℕ) → l < branches → i < statements → Within (now board) (now inverses) (parametersOf (h .setup .group)) (h .n) claim l i) ⌝ }
-    ensures { λ r. ⌜ r ≡ proofHolds (now (board .entry)) at branches statements sha256 (part (now (board .entry)) 22 32) (parametersOf (h .setup .group)) (claimOf (now (board .entry)) (parametersOf (h .setup .group)) (h .n) claim) ⌝ }
+    requires { ⌜ ((l i : ℕ) → l < branches → i < statements → Within (now board) (now inverses) (parametersOf (h .setup .group)) claim l i) ⌝ }
+    ensures { λ r. ⌜ r ≡ holdsAt sha256 (now (board .entry)) (headOf (now (board .entry)) h) at branches statements (claimOf (now (board .entry)) (parametersOf (h .setup .group)) claim) ⌝ }
 {
-    let label = &board[22..layout::HEADER_LENGTH];
+    let g0 = h.setup.group.g0;
+    let g1 = h.setup.group.g1;
+    let prefix = Hasher::new().update(&board[22..layout::HEADER_LENGTH]);
+    let bases = Bases {
+        first: g0,
+        second: g1,
+    };
     let shape = Shape {
         at,
         branches,
         statements,
     };
-    proof::proof_holds(board, label, inverses, shape, h.setup, h.n, claim)
+    proof::proof_holds(board, inverses, prefix, bases, shape, h.setup, claim)
 }

@@ -2,22 +2,28 @@
 use crate::Fault;
 use crate::Head;
 use crate::frames;
+use crate::tally::Tally;
 use count::Count;
 use count::Sheet;
 use fields::CountField;
 use fields::ExponentField;
+use group::Element;
 use group::Exponent;
+use group::Group;
 use rules::Refusal;
 ghost use mathlib.Core.Path.{_≡_};
-ghost use Prim.Native.Nat.{_+_, _*_, _≤_, _<_};
+ghost use Prim.Native.Nat.{_+_, _≤_, _<_};
 ghost use lib.ListN.{length, getD};
 ghost use Rattle.numbers.specs.Below.{allBelow};
-ghost use Rattle.rules.specs.Records.{recordAt, recordLength, roundAt, sheetLength};
-ghost use Rattle.rules.specs.Check.{counts, sheetFault, due};
-ghost use Rattle.count.specs.State.{standingOf, countsOn, Kept};
-ghost use Rattle.records.specs.Heads.{headOf, HeaderKnown};
-ghost use Rattle.records.specs.Faults.{Counted, exponentOf, outFault, Stepped};
-ghost use Rattle.records.specs.Parts.{tallyAt};
+ghost use Rattle.group.specs.Elements.{parametersOf};
+ghost use Rattle.rules.specs.Records.{sheetLength};
+ghost use Rattle.rules.specs.Header.{ranked};
+ghost use Rattle.rules.specs.Sheet as said;
+ghost use Rattle.count.specs.State.{countsOn, Kept};
+ghost use Rattle.records.specs.Heads.{HeaderKnown};
+ghost use Rattle.records.specs.Tallies.{elementOf, Tallied};
+ghost use Rattle.records.specs.Faults.{Counted, exponentOf, outFault, Stepped, SheetReads};
+ghost use Rattle.records.specs.Parts.{columnTallies};
 
 // What a sheet comes to: the refusal; the winner, where it closes the board; or the process that goes out.
 pub enum Outcome {
@@ -26,10 +32,12 @@ pub enum Outcome {
     Open(usize),
 }
 
-// It, and the standing count that the sheet hands back: the next; the one that it took, with the sheet kept, where it closes the board; or the one that it took.
+// It, the standing count that the sheet hands back (the next; the one that it took, with the sheet kept, where it closes the board; or the
+// one that it took), and the place after the sheet.
 pub struct Step {
     pub outcome: Outcome,
     pub count: Count,
+    pub next: usize,
 }
 
 // What is read of a sheet: the first refusal, and the counts and the exponents s by process.
@@ -39,10 +47,10 @@ struct SheetFields {
     s: [Exponent; 8],
 }
 
-// The counts and exponents of the sheet of round m, left to right.
-fn sheet_fields(board: &[u8], h: Head, m: usize, at: usize) -> SheetFields
-    requires { ⌜ HeaderKnown (now board) h × (at ≡ recordAt (h .n) (h .k) m (h .k)) × (at + sheetLength (h .n) ≤ length (now board)) ⌝ }
-    ensures { λ r. ⌜ Counted (now (board .entry)) h m at (r .sheet .counts) (r .s) (r .fault) ⌝ }
+// The counts and exponents of the sheet at a place, left to right.
+fn sheet_fields(board: &[u8], h: Head, at: usize) -> SheetFields
+    requires { ⌜ HeaderKnown ranked (now board) h × (at + sheetLength (h .n) ≤ length (now board)) ⌝ }
+    ensures { λ r. ⌜ Counted (now (board .entry)) h at (r .sheet .counts) (r .s) (r .fault) ⌝ }
 {
     let n = h.n;
     let most = h.k as u32;
@@ -76,117 +84,98 @@ fn sheet_fields(board: &[u8], h: Head, m: usize, at: usize) -> SheetFields
     }
 }
 
-// The tally equations of column i, with its count and its exponent s.
-fn tally(
-    board: &[u8],
-    h: Head,
-    first: usize,
-    size: usize,
-    i: usize,
-    count: Exponent,
-    s: Exponent,
-) -> bool
-    requires { ⌜ HeaderKnown (now board) h × (i < h .n) × (4 + 8 * h .n ≤ size) × (first + size * h .k ≤ length (now board)) ⌝ }
-    ensures { λ r. ⌜ r ≡ tallyAt (now (board .entry)) h first size i (count .0) (s .0) ⌝ }
+// The tally equations of a column: its products, its count and its exponent s.
+fn column_tallies(g: Group, b: Element, y: Element, count: Exponent, s: Exponent) -> bool
+    requires { ⌜ 0 < g .p ⌝ }
+    ensures { λ r. ⌜ r ≡ columnTallies (parametersOf g) (b .0) (y .0) (count .0) (s .0) ⌝ }
 {
-    let group = h.setup.group;
-    let p = group.p;
-    let k = h.k;
-    let place = first + 4 + 8 * i;
-    let b = fields::product(board, p, place, size, k);
-    let due = group::mul(
-        p,
-        group::pow(p, group.g0, s),
-        group::pow(p, group.g1, count),
-    );
+    let p = g.p;
+    let due = group::mul(p, group::pow(p, g.g0, s), group::pow(p, g.g1, count));
     if b.0 == due.0 {
-        let y = fields::product(board, p, place + 4, size, k);
-        y.0 == group::pow(p, group.g1, s).0
+        y.0 == group::pow(p, g.g1, s).0
     } else {
         false
     }
 }
 
-fn tallies(board: &[u8], h: Head, first: usize, size: usize, sheet: Sheet, s: [Exponent; 8]) -> bool
-    requires { ⌜ HeaderKnown (now board) h × (4 + 8 * h .n ≤ size) × (first + size * h .k ≤ length (now board)) ⌝ }
-    ensures { λ r. ⌜ r ≡ allBelow (h .n) (λ i. tallyAt (now (board .entry)) h first size i (getD (sheet .counts) i 0) (exponentOf s i)) ⌝ }
+fn tallies(g: Group, n: usize, tally: Tally, sheet: Sheet, s: [Exponent; 8]) -> bool
+    requires { ⌜ (0 < g .p) × (n ≤ 8) × (length (tally .b) ≡ 8) × (length (tally .y) ≡ 8) ⌝ }
+    ensures { λ r. ⌜ r ≡ allBelow n (λ i. columnTallies (parametersOf g) (elementOf (tally .b) i) (elementOf (tally .y) i) (getD (sheet .counts) i 0) (exponentOf s i)) ⌝ }
 {
-    let head = h;
-    let n = h.n;
+    let group = g;
+    let b = tally.b;
+    let y = tally.y;
     let counts = sheet.counts;
     let exponents = s;
     for i in 0..n {
         let count = Exponent(counts[i]);
-        if !tally(board, head, first, size, i, count, exponents[i]) {
+        if !column_tallies(group, b[i], y[i], count, exponents[i]) {
             return false;
         }
     }
     true
 }
 
-fn refused(why: Refusal, count: Count) -> Step
-    ensures { λ r. ⌜ (r .outcome ≡ Outcome.Refused why) × (r .count ≡ count) ⌝ }
+fn refused(why: Refusal, count: Count, next: usize) -> Step
+    ensures { λ r. ⌜ (r .outcome ≡ Outcome.Refused why) × (r .count ≡ count) × (r .next ≡ next) ⌝ }
 {
     Step {
         outcome: Outcome::Refused(why),
         count,
+        next,
     }
 }
 
 // What a sheet that passed the tests before comes to, by its out field: 0 where it closes the board, and else the process that leaves.
-fn counted(count: Count, sheet: Sheet, n: usize, k: usize, out: usize) -> Step
+fn counted(count: Count, sheet: Sheet, n: usize, k: usize, out: usize, next: usize) -> Step
     requires { ⌜ Kept count × (count .gone .outs < 8) × (2 ≤ n) × (n ≤ 8) × (k ≤ 1000) ⌝ }
-    ensures { λ r. ⌜ Stepped n k count (countsOn n sheet) (outFault n k count (countsOn n sheet) out) (r .outcome) (r .count) ⌝ }
+    ensures { λ r. ⌜ Stepped n k count (countsOn n sheet) (outFault n k count (countsOn n sheet) out) (r .outcome) (r .count) × (r .next ≡ next) ⌝ }
 {
     if count.closes(sheet, n, k as u32) {
         if out != 0 {
-            return refused(Refusal::Out, count);
+            return refused(Refusal::Out, count, next);
         }
         let ended = count.close(sheet, n);
         let last = ended.count;
         return Step {
             outcome: Outcome::Closed(ended.winner),
             count: last,
+            next,
         };
     }
     let leaves = count.leaves(sheet, n);
     if out != leaves {
-        return refused(Refusal::Out, count);
+        return refused(Refusal::Out, count, next);
     }
     Step {
         outcome: Outcome::Open(leaves),
         count: count.next(sheet, leaves),
+        next,
     }
 }
 
-// The sheet of round m, whose ballots start at first, size bytes apart.
-pub fn sheet_step(
-    board: &[u8],
-    h: Head,
-    count: Count,
-    m: usize,
-    first: usize,
-    size: usize,
-    at: usize,
-) -> Step
-    requires { ⌜ HeaderKnown (now board) h × Kept count × (count .gone .outs ≡ m) × (m < h .n) × (at ≤ length (now board)) ⌝ }
-    requires { ⌜ (at ≡ recordAt (h .n) (h .k) m (h .k)) × (first ≡ roundAt (h .n) (h .k) m) × (size ≡ recordLength (h .n) m) ⌝ }
-    ensures { λ r. ⌜ Stepped (h .n) (h .k) count (counts (now (board .entry)) (headOf (now (board .entry)) h) m) (sheetFault (now (board .entry)) (headOf (now (board .entry)) h) m (due (headOf (now (board .entry)) h) (standingOf (h .n) count) (counts (now (board .entry)) (headOf (now (board .entry)) h) m))) (r .outcome) (r .count) ⌝ }
+// The sheet of the round after those of the standing count, at its place; the products are those of the round's ballots.
+pub fn read_sheet(board: &[u8], h: Head, count: Count, tally: Tally, at: usize) -> Step
+    requires { ⌜ HeaderKnown ranked (now board) h × Kept count × (count .gone .outs < h .n) × (at ≤ length (now board)) ⌝ }
+    requires { ⌜ (length (tally .b) ≡ 8) × (length (tally .y) ≡ 8) ⌝ }
+    ensures { λ r. ⌜ ((T : said.Tally) → Tallied (h .setup .group .p) (h .n) tally T → SheetReads (now (board .entry)) h count T at (r .outcome) (r .count)) × (r .next ≡ at + sheetLength (h .n)) ⌝ }
 {
     let n = h.n;
-    let framed = frames::sheet_frame(board, at, n, m + 1);
+    let round = count.gone.outs + 1;
+    let next = at + layout::sheet_length(n);
+    let framed = frames::sheet_frame(board, at, n, round);
     if let Fault::Refused(why) = framed {
-        return refused(why, count);
+        return refused(why, count, next);
     }
-    let read = sheet_fields(board, h, m, at);
+    let read = sheet_fields(board, h, at);
     let walked = read.fault;
     if let Fault::Refused(why) = walked {
-        return refused(why, count);
+        return refused(why, count, next);
     }
     let sheet = read.sheet;
     let s = read.s;
-    if !tallies(board, h, first, size, sheet, s) {
-        return refused(Refusal::Tally, count);
+    if !tallies(h.setup.group, n, tally, sheet, s) {
+        return refused(Refusal::Tally, count, next);
     }
-    counted(count, sheet, n, h.k, frames::byte(board, at + 3))
+    counted(count, sheet, n, h.k, frames::byte(board, at + 3), next)
 }

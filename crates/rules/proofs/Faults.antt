@@ -11,7 +11,7 @@ use lib.Dec.{eqb}
 use borrow.Author.Tests.{eqb-true, eqb-false, ne-eqb}
 use Rattle.numbers.proofs.Search.{extend}
 use Rattle.numbers.proofs.Tests.{by-cases}
-use Rattle.rules.specs.Check.{Test, firstFault, faultBelow}
+use Rattle.rules.specs.Tests.{Test, firstFault, faultBelow}
 
 pub none-some : {A : Type 0} {a : A} → none ≡ some a → ⊥
 none-some e = let z : _≡_ {A = ℕ} 0 1 = cc in omega arith

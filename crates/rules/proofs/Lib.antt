@@ -6,3 +6,4 @@ pub mod Sizes
 pub mod Orders
 pub mod Elements
 pub mod Places
+pub mod Positions

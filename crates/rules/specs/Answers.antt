@@ -29,7 +29,7 @@ refusalNumber R.Output = 15
 -- the checker's answer; of the array of 8 the first rounds - 1 are the order
 abbrev pub answerOf : Answer → (order : List ℕ) → Verdict
 answerOf (A.Accepted rounds winner) order = accepted rounds (take (rounds - 1) order) winner
-answerOf (A.Refused refusal place) order = refused (refusalNumber refusal) place
+answerOf (A.Refused refusal number) order = refused (refusalNumber refusal) number
 
 abbrev pub verdictOf : Checked → Verdict
 verdictOf r = answerOf (r .answer) (r .order)
@@ -41,4 +41,4 @@ withZeros order = order ++ replicate (8 - length order) 0
 -- zeros alone where the board is refused
 abbrev pub orderOf : Verdict → List ℕ
 orderOf (accepted rounds order winner) = withZeros order
-orderOf (refused number place) = replicate 8 0
+orderOf (refused refusal number) = replicate 8 0

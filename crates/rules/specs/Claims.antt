@@ -18,19 +18,19 @@ pub record Matrix : Type 0 where
 unfoldable pub matrixAt : (s : List ℕ) (n at : ℕ) → Matrix
 matrixAt s n at = record { b = λ i j. number4 s (at + 4 + 8 * (i * n + j)); y = λ i j. number4 s (at + 4 + 8 * (i * n + j) + 4) }
 
--- "Entry: two branches, (b, Y) and (b/g1, Y)."
-unfoldable pub entryClaim : Parameters → Matrix → (i j l : ℕ) → Statement
-entryClaim g M i j zero = record { left = M .b i j; right = M .y i j }
-entryClaim g M i j (suc l) = record { left = over (g .p) (g .q) (M .b i j) (g .g1); right = M .y i j }
+-- "Entry: two branches, (b, Y) and (b/g1, Y).": of a pair
+unfoldable pub entryClaim : Parameters → (b y l : ℕ) → Statement
+entryClaim g b y zero = record { left = b; right = y }
+entryClaim g b y (suc l) = record { left = over (g .p) (g .q) b (g .g1); right = y }
 
--- "Row, column: one branch; the products of the row's or column's b and Y, the former over g1."
-abbrev pub lineClaim : Parameters → (n : ℕ) (b y : ℕ → ℕ) → Statement
-lineClaim g n b y = record { left = over (g .p) (g .q) (prodBelow n b) (g .g1); right = prodBelow n y % g .p }
+-- "Row, column: one branch; the products of the row's or column's b and Y, the former over g1.": of a run of pairs
+unfoldable pub lineClaim : Parameters → (count : ℕ) (b y : ℕ → ℕ) → Statement
+lineClaim g count b y = record { left = over (g .p) (g .q) (prodBelow count b) (g .g1); right = prodBelow count y % g .p }
 
-unfoldable pub rowClaim : Parameters → (n : ℕ) → Matrix → (i : ℕ) → Statement
+abbrev pub rowClaim : Parameters → (n : ℕ) → Matrix → (i : ℕ) → Statement
 rowClaim g n M i = lineClaim g n (λ j. M .b i j) (λ j. M .y i j)
 
-unfoldable pub columnClaim : Parameters → (n : ℕ) → Matrix → (j : ℕ) → Statement
+abbrev pub columnClaim : Parameters → (n : ℕ) → Matrix → (j : ℕ) → Statement
 columnClaim g n M j = lineClaim g n (λ i. M .b i j) (λ i. M .y i j)
 
 -- "row i if i < l, else row i+1"

@@ -1,16 +1,12 @@
--- "Group and ballots": the rules on n, K, p, q, g0 and g1, and the pairs.
+-- "Group and ballots": the rules on p, q, g0 and g1, and the pairs.
 use Prim.Native.Nat.{ℕ, _-_, _/_, _%_, _^_}
 use mathlib.Core.List.{List, [], _∷_, _++_}
 use mathlib.Core.Bool.{Bool, _&&_, not}
-use lib.Dec.{leb, ltb, eqb}
+use lib.Dec.{ltb, eqb}
 use Rattle.numbers.specs.Primes.{isPrime}
 use Rattle.group.specs.Arithmetic.{mulMod, powMod}
 use Rattle.group.specs.Elements.{isElement, Parameters}
 use Rattle.rules.specs.Bytes.{bytes4, number8}
-
--- "n is the number of processes (2 to 8, numbered from 1), K the number of ballots (1 to 1,000)."
-abbrev pub sizes : (n K : ℕ) → Bool
-sizes n K = leb 2 n && leb n 8 && leb 1 K && leb K 1000
 
 -- "p and q are primes, p < 2^31, q divides p−1, q > n and q > K."
 unfoldable pub orders : (n K p q : ℕ) → Bool

@@ -6,6 +6,11 @@ pub mod Records
 pub mod Proofs
 pub mod Claims
 pub mod Count
+pub mod Tests
+pub mod Header
+pub mod Ballot
+pub mod Shift
+pub mod Sheet
 pub mod Check
 pub mod Answers
 pub mod Openings

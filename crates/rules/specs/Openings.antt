@@ -10,7 +10,8 @@ use Rattle.group.specs.Elements.{Parameters}
 use Rattle.rules.specs.Group.{paired}
 use Rattle.rules.specs.Claims.{Matrix}
 use Rattle.rules.specs.Count.{isRanking}
-use Rattle.rules.specs.Check.{header, matrix, outField}
+use Rattle.rules.specs.Header.{header}
+use Rattle.rules.specs.Check.{matrix, outField}
 
 -- "A pair (b, Y) opens to x and v, both 0 to q−1, if b = g0^x × g1^v and Y = g1^x."
 pub record Opening (g : Parameters) (b y x v : ℕ) : Type 0 where

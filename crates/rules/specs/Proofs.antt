@@ -6,7 +6,7 @@ use mathlib.Core.Bool.{Bool, _&&_}
 use lib.Dec.{eqb, ltb}
 use Rattle.numbers.specs.Below.{allBelow, sumBelow, concatBelow}
 use Rattle.group.specs.Arithmetic.{mulMod, powMod}
-use Rattle.group.specs.Elements.{isElement, Parameters}
+use Rattle.group.specs.Elements.{isElement}
 use Rattle.rules.specs.Bytes.{number4, number8, part}
 
 -- "Every statement has one kind: for a pair (A, B), some w has A = g0^w and B = g1^w."
@@ -19,9 +19,9 @@ unfoldable pub statementHolds : (p base0 base1 : ℕ) → Statement → (t1 t2 e
 statementHolds p base0 base1 st t1 t2 e r =
     eqb (powMod p base0 r) (mulMod p t1 (powMod p (st .left) e)) && eqb (powMod p base1 r) (mulMod p t2 (powMod p (st .right) e))
 
--- "c is the first 8 bytes of SHA-256(label, then t1, t2 of every statement in order), modulo q."
-abbrev pub challenge : (hash : List ℕ → List ℕ) (label commitments : List ℕ) (q : ℕ) → ℕ
-challenge hash label commitments q = number8 (hash (label ++ commitments)) 0 % q
+-- "c is the first 8 bytes of SHA-256(label, then t1, t2 of every statement in order), modulo q.": what stands before the commitments is the prefix
+abbrev pub challenge : (hash : List ℕ → List ℕ) (prefix commitments : List ℕ) (q : ℕ) → ℕ
+challenge hash prefix commitments q = number8 (hash (prefix ++ commitments)) 0 % q
 
 -- "A proof is, per branch, e 4, then per statement t1, t2, r, 4 each." Its branches have as many statements each.
 abbrev pub branchAt : (at statements l : ℕ) → ℕ
@@ -45,11 +45,11 @@ module _ (s : List ℕ) (at branches statements : ℕ) where
   unfoldable pub commitments : List ℕ
   commitments = concatBelow branches (λ l. concatBelow statements (λ i. part s (statementAt at statements l i) 8))
 
-  -- "It holds if for every statement" the equations hold "and the challenges add up, modulo q, to c."
-  unfoldable pub proofHolds : (hash : List ℕ → List ℕ) (label : List ℕ) → Parameters → (claim : ℕ → ℕ → Statement) → Bool
-  proofHolds hash label g claim =
+  -- "It holds if for every statement" the equations hold "and the challenges add up, modulo q, to c.": at any two bases, under any prefix
+  unfoldable pub proofHolds : (hash : List ℕ → List ℕ) (prefix : List ℕ) (p q base0 base1 : ℕ) (claim : ℕ → ℕ → Statement) → Bool
+  proofHolds hash prefix p q base0 base1 claim =
       allBelow branches (λ l. allBelow statements (λ i.
-      statementHolds (g .p) (g .g0) (g .g1) (claim l i)
+      statementHolds p base0 base1 (claim l i)
       (number4 s (statementAt at statements l i)) (number4 s (statementAt at statements l i + 4))
       (number4 s (branchAt at statements l)) (number4 s (statementAt at statements l i + 8))))
-      && eqb (sumBelow branches (λ l. number4 s (branchAt at statements l)) % g .q) (challenge hash label commitments (g .q))
+      && eqb (sumBelow branches (λ l. number4 s (branchAt at statements l)) % q) (challenge hash prefix commitments q)

@@ -1,4 +1,4 @@
--- "Records": marks, lengths, places and numbers.
+-- "Records": marks and lengths.
 use Prim.Native.Nat.{ℕ, zero, suc, _+_, _*_, _-_}
 use mathlib.Core.Bool.{Bool, _&&_}
 use mathlib.Core.List.{List, [], _∷_}
@@ -40,16 +40,3 @@ sheetLength n = 4 + 6 * n
 unfoldable pub recordLength : (n m : ℕ) → ℕ
 recordLength n zero = ballotLength n
 recordLength n (suc m) = shiftLength n (n - suc m)
-
-unfoldable pub roundAt : (n K m : ℕ) → ℕ
-unfolding recordLength
-roundAt n K zero = headerLength
-roundAt n K (suc m) = roundAt n K m + K * recordLength n m + sheetLength n
-
--- where the record of ballot k in round m starts; that of k = K is the sheet
-unfoldable pub recordAt : (n K m k : ℕ) → ℕ
-recordAt n K m k = roundAt n K m + k * recordLength n m
-
--- "Records are taken in order, numbered from 0."
-abbrev pub recordNumber : (K m k : ℕ) → ℕ
-recordNumber K m k = 1 + m * (K + 1) + k

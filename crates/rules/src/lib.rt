@@ -1,4 +1,4 @@
-// The checker's answer. The rules themselves are definitions, in specs/; specs/Answers.antt gives the number and the values of each case.
+// The checker's answer, and the kinds of boards. The rules themselves are definitions, in specs/; specs/Answers.antt gives the number and the values of each case.
 ghost use mathlib.Core.Path.{_≡_};
 ghost use Rattle.rules.specs.Answers.{refusalNumber};
 
@@ -57,6 +57,14 @@ pub fn refusal_number(r: Refusal) -> usize
         Refusal::Draws => 14,
         Refusal::Output => 15,
     }
+}
+
+// A kind of board: the mark of its header, the least and the most processes, and the most ballots.
+pub struct Model {
+    pub mark: [u8; 2],
+    pub least: usize,
+    pub most: usize,
+    pub ballots: usize,
 }
 
 pub enum Answer {

@@ -14,13 +14,12 @@ use Rattle.sha256.specs.Message.{sha256}
 use Rattle.sha256.specs.Feed.{Fed}
 use Rattle.sha256.specs.declared.Hasher.{Hasher}
 use Rattle.rules.specs.Bytes.{number4, number8, part}
-use Rattle.group.specs.Elements.{Parameters}
 use Rattle.rules.specs.Proofs.{Statement, statementHolds, branchAt, statementAt, proofHolds, commitments}
 
-module _ (s : List ℕ) (g : Parameters) (claim : ℕ → ℕ → Statement) (at statements : ℕ) where
+module _ (s : List ℕ) (p base0 base1 : ℕ) (claim : ℕ → ℕ → Statement) (at statements : ℕ) where
   abbrev pub here : (l i : ℕ) → Bool
   here l i =
-      statementHolds (g .p) (g .g0) (g .g1) (claim l i)
+      statementHolds p base0 base1 (claim l i)
       (number4 s (statementAt at statements l i)) (number4 s (statementAt at statements l i + 4))
       (number4 s (branchAt at statements l)) (number4 s (statementAt at statements l i + 8))
 
@@ -57,16 +56,16 @@ pub sum-more : (q sum sum' e l : ℕ) (f : ℕ → ℕ) → sum ≡ sumBelow l f
 unfolding sumBelow
 sum-more q sum sum' e l f h he h' = rw (add-one l, h', h, he) (mod-add-mod (sumBelow l f) q (f l))
 
-module _ (s label : List ℕ) (g : Parameters) (claim : ℕ → ℕ → Statement) (at branches statements : ℕ) where
-  pub fails-there : (l i : ℕ) → l < branches → i < statements → here s g claim at statements l i ≡ false →
-      false ≡ proofHolds s at branches statements sha256 label g claim
+module _ (s prefix : List ℕ) (p q base0 base1 : ℕ) (claim : ℕ → ℕ → Statement) (at branches statements : ℕ) where
+  pub fails-there : (l i : ℕ) → l < branches → i < statements → here s p base0 base1 claim at statements l i ≡ false →
+      false ≡ proofHolds s at branches statements sha256 prefix p q base0 base1 claim
   unfolding proofHolds
-  fails-there l i hl hi h = rw (all-fails branches l (branchHere s g claim at statements) hl (all-fails statements i (here s g claim at statements l) hi h))
+  fails-there l i hl hi h = rw (all-fails branches l (branchHere s p base0 base1 claim at statements) hl (all-fails statements i (here s p base0 base1 claim at statements l) hi h))
 
-  pub sums-up : (sum c : ℕ) → allBelow branches (branchHere s g claim at statements) ≡ true →
-      sum ≡ sumBelow branches (challenges s at statements) % g .q →
-      c ≡ number8 (sha256 (label ++ concatBelow branches (pieces s at statements))) 0 % g .q →
-      eqb sum c ≡ proofHolds s at branches statements sha256 label g claim
+  pub sums-up : (sum c : ℕ) → allBelow branches (branchHere s p base0 base1 claim at statements) ≡ true →
+      sum ≡ sumBelow branches (challenges s at statements) % q →
+      c ≡ number8 (sha256 (prefix ++ concatBelow branches (pieces s at statements))) 0 % q →
+      eqb sum c ≡ proofHolds s at branches statements sha256 prefix p q base0 base1 claim
   unfolding proofHolds commitments
   sums-up sum c h hs hc = rw (h, hs, hc)
 

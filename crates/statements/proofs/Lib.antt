@@ -2,6 +2,7 @@
 pub mod Reading
 pub mod Lines
 pub mod PlainClaims
+pub mod Places
 pub mod ShiftClaims
 pub mod Tables
 pub mod Branches

@@ -31,8 +31,8 @@ module _ (n l t : ℕ) where
       (λ b. let e = source-high (ltb-false (t / n) l b) in omega arith)
 
 module _ (s : List ℕ) (g : Parameters) (n before new : ℕ) where
-  pub shift-zero : (a l k : ℕ) → k ≡ 0 → entryClaim g (matrixAt s n before) l a 1 ≡ shiftClaim g n (matrixAt s n before) (matrixAt s n new) a l k
-  unfolding entryClaim shiftClaim
+  pub shift-zero : (a l k : ℕ) → k ≡ 0 → entryClaim g (number4 s (before + 4 + 8 * (l * n + a))) (number4 s (before + 4 + 8 * (l * n + a) + 4)) 1 ≡ shiftClaim g n (matrixAt s n before) (matrixAt s n new) a l k
+  unfolding entryClaim shiftClaim matrixAt
   shift-zero a l k e = rw e
 
   pub shift-one : (a l k b y : ℕ) → k ≡ 1 → b ≡ prodBelow n (besides a (λ j. number4 s (before + 4 + 8 * (l * n) + 8 * j))) % g .p →

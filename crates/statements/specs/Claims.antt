@@ -7,17 +7,16 @@ use Rattle.group.specs.Arithmetic.{powMod}
 use Rattle.group.specs.Elements.{Parameters}
 use Rattle.rules.specs.Bytes.{number4}
 use Rattle.rules.specs.Proofs as said
-use Rattle.rules.specs.Claims.{matrixAt, entryClaim, rowClaim, columnClaim, shiftClaim}
-use Rattle.statements.specs.Lines.{byLine}
+use Rattle.rules.specs.Claims.{matrixAt, entryClaim, lineClaim, shiftClaim}
 use Rattle.statements.specs.declared.Statement.{Statement}
 use Rattle.statements.specs.declared.claims.Claim.{Claim}
 use Rattle.statements.specs.declared.claims.Claim.the-variants.{Entry, Line, Shift}
 
--- what a claim says of branch l, statement k: the matrices are those of the records at its places
-unfoldable pub claimOf : (s : List ℕ) → Parameters → (n : ℕ) → Claim → (l k : ℕ) → said.Statement
-claimOf s g n (Entry at i j) l k = entryClaim g (matrixAt s n at) i j l
-claimOf s g n (Line at t) l k = byLine n t (rowClaim g n (matrixAt s n at)) (columnClaim g n (matrixAt s n at))
-claimOf s g n (Shift before new rows a) l k = shiftClaim g n (matrixAt s n before) (matrixAt s n new) a l k
+-- what a claim says of branch l, statement k: the pairs are those at its places, the matrices those of the records there
+unfoldable pub claimOf : (s : List ℕ) → Parameters → Claim → (l k : ℕ) → said.Statement
+claimOf s g (Entry at) l k = entryClaim g (number4 s at) (number4 s (at + 4)) l
+claimOf s g (Line at stride count) l k = lineClaim g count (λ j. number4 s (at + stride * j)) (λ j. number4 s (at + 4 + stride * j))
+claimOf s g (Shift before new rows n a) l k = shiftClaim g n (matrixAt s n before) (matrixAt s n new) a l k
 
 -- the inverses of the words of a matrix, one after another
 abbrev pub Inverted : (s : List ℕ) (p q at words : ℕ) (inverses : List ℕ) → Type 0
@@ -28,7 +27,7 @@ pub record InverseTable (s : List ℕ) (p q at words : ℕ) (inverses : List ℕ
   pub inverted : Inverted s p q at words inverses
   pub zeros : (u : ℕ) → words ≤ u → getD inverses u 0 ≡ 0
 
-pub record Shifts (s inverses : List ℕ) (g : Parameters) (n before new rows a l k : ℕ) : Type 0 where
+pub record Shifts (s inverses : List ℕ) (g : Parameters) (before new rows n a l k : ℕ) : Type 0 where
   pub column : a < n
   pub branch : l ≤ rows
   pub statement : k < 2 + rows * n
@@ -37,8 +36,13 @@ pub record Shifts (s inverses : List ℕ) (g : Parameters) (n before new rows a 
   pub long-enough : 2 * ((rows + 1) * n) ≤ length inverses
   pub inverted : Inverted s (g .p) (g .q) before (2 * ((rows + 1) * n)) inverses
 
+-- a run of pairs, and at least one
+pub record Run (s : List ℕ) (at stride count : ℕ) : Type 0 where
+  pub some : 0 < count
+  pub fits : (j : ℕ) → j < count → at + stride * j + 8 ≤ length s
+
 -- the pairs that a claim speaks of stand on the board, and the inverses that it needs are there
-unfoldable pub Within : (s inverses : List ℕ) → Parameters → (n : ℕ) → Claim → (l k : ℕ) → Type 0
-Within s inverses g n (Entry at i j) l k = (i < n) × (j < n) × (at + 4 + 8 * (n * n) ≤ length s)
-Within s inverses g n (Line at t) l k = (t < n + n) × (at + 4 + 8 * (n * n) ≤ length s)
-Within s inverses g n (Shift before new rows a) l k = Shifts s inverses g n before new rows a l k
+unfoldable pub Within : (s inverses : List ℕ) → Parameters → Claim → (l k : ℕ) → Type 0
+Within s inverses g (Entry at) l k = at + 8 ≤ length s
+Within s inverses g (Line at stride count) l k = Run s at stride count
+Within s inverses g (Shift before new rows n a) l k = Shifts s inverses g before new rows n a l k

@@ -1,4 +1,4 @@
-// What each proof claims, over matrices that stand at places of a lent slice.
+// What each proof claims, over pairs that stand at places of a lent slice.
 use crate::Setup;
 use crate::Statement;
 use group::Element;
@@ -7,41 +7,41 @@ ghost use mathlib.Core.Path.{_≡_};
 ghost use Prim.Native.Nat.{_+_, _*_, _-_, _/_, _%_, _≤_, _<_, _^_};
 ghost use lib.ListN.{length};
 ghost use Rattle.group.specs.Elements.{parametersOf};
-ghost use Rattle.rules.specs.Claims.{matrixAt, source, entryClaim, rowClaim, columnClaim, shiftClaim};
+ghost use Rattle.rules.specs.Bytes.{number4};
+ghost use Rattle.rules.specs.Claims.{matrixAt, source, entryClaim, lineClaim, shiftClaim};
 ghost use Rattle.statements.specs.Values.{statementOf, Ready};
-ghost use Rattle.statements.specs.Lines.{byLine, lineStart, lineStride};
-ghost use Rattle.statements.specs.Claims.{claimOf, Shifts, InverseTable, Within};
+ghost use Rattle.statements.specs.Lines.{lineStart, lineStride};
+ghost use Rattle.statements.specs.Claims.{claimOf, Run, Shifts, InverseTable, Within};
 
-// Which proof, over matrices of n columns. A place is that of the record, four bytes before the matrix.
+// Which proof, over pairs that stand on the board: b at a place, Y four bytes past it.
 pub enum Claim {
-    // The pair in row i and column j is of 0 or of 1.
+    // The pair at a place is of 0 or of 1.
     Entry {
         at: usize,
-        i: usize,
-        j: usize,
     },
-    // Line t sums to 1.
+    // So many pairs sum to 1: the first at a place, each a stride of bytes past the one before.
     Line {
         at: usize,
-        t: usize,
+        stride: usize,
+        count: usize,
     },
-    // The new matrix, of so many rows, is the one before with the row struck that has its 1 in column a.
+    // The new matrix, of so many rows of n, is the one before with the row struck that has its 1 in column a. The places are those of the records, four bytes before the matrices.
     Shift {
         before: usize,
         new: usize,
         rows: usize,
+        n: usize,
         a: usize,
     },
 }
 
-fn claimed_entry(s: &[u8], g: Setup, n: usize, at: usize, i: usize, j: usize, l: usize) -> Statement
+fn claimed_entry(s: &[u8], g: Setup, at: usize, l: usize) -> Statement
     requires { ⌜ Ready g ⌝ }
-    requires { ⌜ at + 4 + 8 * (i * n + j) + 8 ≤ length (now s) ⌝ }
-    ensures { λ r. ⌜ statementOf r ≡ entryClaim (parametersOf (g .group)) (matrixAt (now (s .entry)) n at) i j l ⌝ }
+    requires { ⌜ at + 8 ≤ length (now s) ⌝ }
+    ensures { λ r. ⌜ statementOf r ≡ entryClaim (parametersOf (g .group)) (number4 (now (s .entry)) at) (number4 (now (s .entry)) (at + 4)) l ⌝ }
 {
-    let place = at + 4 + 8 * (i * n + j);
-    let b = fields::as_element(s, place);
-    let y = fields::as_element(s, place + 4);
+    let b = fields::as_element(s, at);
+    let y = fields::as_element(s, at + 4);
     if l == 0 {
         return Statement { left: b, right: y };
     }
@@ -74,16 +74,13 @@ pub fn line_of(n: usize, t: usize) -> Line
     }
 }
 
-fn claimed_line(s: &[u8], g: Setup, n: usize, at: usize, t: usize) -> Statement
+fn claimed_line(s: &[u8], g: Setup, at: usize, stride: usize, count: usize) -> Statement
     requires { ⌜ Ready g ⌝ }
-    requires { ⌜ (t < n + n) × (at + 4 + 8 * (n * n) ≤ length (now s)) ⌝ }
-    ensures { λ r. ⌜ statementOf r ≡ byLine n t (rowClaim (parametersOf (g .group)) n (matrixAt (now (s .entry)) n at)) (columnClaim (parametersOf (g .group)) n (matrixAt (now (s .entry)) n at)) ⌝ }
+    requires { ⌜ Run (now s) at stride count ⌝ }
+    ensures { λ r. ⌜ statementOf r ≡ lineClaim (parametersOf (g .group)) count (λ j. number4 (now (s .entry)) (at + stride * j)) (λ j. number4 (now (s .entry)) (at + 4 + stride * j)) ⌝ }
 {
-    let line = line_of(n, t);
-    let place = at + 4 + 8 * line.start;
-    let stride = 8 * line.stride;
-    let b = fields::product(s, g.group.p, place, stride, n);
-    let y = fields::product(s, g.group.p, place + 4, stride, n);
+    let b = fields::product(s, g.group.p, at, stride, count);
+    let y = fields::product(s, g.group.p, at + 4, stride, count);
     Statement {
         left: group::mul(g.group.p, b, g.inverse),
         right: y,
@@ -102,32 +99,26 @@ pub fn source_of(n: usize, l: usize, t: usize) -> usize
     t + n
 }
 
-// A shift's matrices: where the record before and the new one start, the rows of the new one, and the column gone out.
+// A shift's matrices: where the record before and the new one start, the rows of the new one, the columns, and the one gone out.
 struct Struck {
     before: usize,
     new: usize,
     rows: usize,
+    n: usize,
     a: usize,
 }
 
-fn claimed_shift(
-    s: &[u8],
-    inverses: &[u32],
-    g: Setup,
-    n: usize,
-    m: Struck,
-    l: usize,
-    k: usize,
-) -> Statement
+fn claimed_shift(s: &[u8], inverses: &[u32], g: Setup, m: Struck, l: usize, k: usize) -> Statement
     requires { ⌜ Ready g ⌝ }
-    requires { ⌜ Shifts (now s) (now inverses) (parametersOf (g .group)) n (m .before) (m .new) (m .rows) (m .a) l k ⌝ }
-    ensures { λ r. ⌜ statementOf r ≡ shiftClaim (parametersOf (g .group)) n (matrixAt (now (s .entry)) n (m .before)) (matrixAt (now (s .entry)) n (m .new)) (m .a) l k ⌝ }
+    requires { ⌜ Shifts (now s) (now inverses) (parametersOf (g .group)) (m .before) (m .new) (m .rows) (m .n) (m .a) l k ⌝ }
+    ensures { λ r. ⌜ statementOf r ≡ shiftClaim (parametersOf (g .group)) (m .n) (matrixAt (now (s .entry)) (m .n) (m .before)) (matrixAt (now (s .entry)) (m .n) (m .new)) (m .a) l k ⌝ }
 {
     let p = g.group.p;
+    let n = m.n;
     let before = m.before;
     let new = m.new;
     if k == 0 {
-        return claimed_entry(s, g, n, before, l, m.a, 1);
+        return claimed_entry(s, g, before + 4 + 8 * (l * n + m.a), 1);
     }
     if k == 1 {
         let place = before + 4 + 8 * (l * n);
@@ -149,35 +140,29 @@ fn claimed_shift(
 }
 
 // What a claim says of branch l, statement k.
-pub fn claimed(
-    s: &[u8],
-    inverses: &[u32],
-    g: Setup,
-    n: usize,
-    claim: Claim,
-    l: usize,
-    k: usize,
-) -> Statement
+pub fn claimed(s: &[u8], inverses: &[u32], g: Setup, claim: Claim, l: usize, k: usize) -> Statement
     requires { ⌜ Ready g ⌝ }
-    requires { ⌜ Within (now s) (now inverses) (parametersOf (g .group)) n claim l k ⌝ }
-    ensures { λ r. ⌜ statementOf r ≡ claimOf (now (s .entry)) (parametersOf (g .group)) n claim l k ⌝ }
+    requires { ⌜ Within (now s) (now inverses) (parametersOf (g .group)) claim l k ⌝ }
+    ensures { λ r. ⌜ statementOf r ≡ claimOf (now (s .entry)) (parametersOf (g .group)) claim l k ⌝ }
 {
     match claim {
-        Claim::Entry { at, i, j } => claimed_entry(s, g, n, at, i, j, l),
-        Claim::Line { at, t } => claimed_line(s, g, n, at, t),
+        Claim::Entry { at } => claimed_entry(s, g, at, l),
+        Claim::Line { at, stride, count } => claimed_line(s, g, at, stride, count),
         Claim::Shift {
             before,
             new,
             rows,
+            n,
             a,
         } => {
             let m = Struck {
                 before,
                 new,
                 rows,
+                n,
                 a,
             };
-            claimed_shift(s, inverses, g, n, m, l, k)
+            claimed_shift(s, inverses, g, m, l, k)
         }
     }
 }

@@ -3,7 +3,7 @@ use group::Element;
 use group::Exponent;
 use group::Group;
 ghost use mathlib.Core.Path.{_≡_};
-ghost use Prim.Native.Nat.{_+_, _*_, _-_, _%_, _<_};
+ghost use Prim.Native.Nat.{_-_, _<_};
 ghost use Rattle.rules.specs.Proofs.{statementHolds};
 ghost use Rattle.statements.specs.Values.{statementOf, Ready};
 

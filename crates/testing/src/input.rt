@@ -2,7 +2,7 @@
 use crate::print;
 use libc::STDIN_FILENO;
 ghost use mathlib.Core.Path.{_≡_};
-ghost use Prim.Native.Nat.{ℕ, _≤_, _<_};
+ghost use Prim.Native.Nat.{ℕ, _<_};
 ghost use lib.ListN.{length, getD};
 ghost use Rattle.io.specs.Counts.{Counts};
 ghost use Rattle.testing.specs.Input.{pieceAt};

@@ -10,7 +10,7 @@ pub mod Rounds
 use Prim.Native.Nat.{ℕ, _+_, _-_, _<_, zero-le}
 use native.Mathlib.Nat.{mod-lt}
 use native.Mathlib.Omega.{arith}
-use mathlib.Core.Path.{subst, subst⁻¹, _≡_, sym, refl}
+use mathlib.Core.Path.{subst, subst⁻¹, _≡_, sym, refl, _∙_}
 use mathlib.Core.Bool.{true, and-eq-true-iff}
 use mathlib.Core.List.{List, [], _∷_, _++_}
 use lib.ListN.{length, getD, length-append}
@@ -19,12 +19,15 @@ use Rattle.rules.specs.Bytes.{number2, number4, part, bytes2, bytes4, Stands}
 use Rattle.group.specs.Elements.{Parameters, isElement}
 use Rattle.rules.specs.Group.{generators, derived}
 use Rattle.group.specs.Arithmetic.{powMod}
-use Rattle.rules.specs.Records.{HD, roundAt, hasMark}
+use Rattle.rules.specs.Records.{HD, hasMark}
 use Rattle.rules.specs.Count.{start, isRanking, table, plainCount}
-use Rattle.rules.specs.Check.{firstFault, header, headerFault, checkFrom, accepted, checkBoard, matrix}
-use Rattle.jobs.specs.Job.{Job, groupOf, headerOf, rankingOf, boardLength, plainResult}
+use Rattle.rules.specs.Header.{ranked, header}
+use Rattle.rules.specs.Check.{checkFrom, accepted, checkModel, checkBoard, matrix}
+use Rattle.jobs.specs.Job.{Job, groupOf, headerOf, rankingOf, roundAt, boardLength, plainResult}
 use Rattle.jobs.specs.Board.{roundsFrom, board}
+use Rattle.whole.specs.Rules.{HeaderRules}
 use Rattle.whole.specs.ThirdDemand.{IsWritten, IsPlain}
+use Rattle.whole.proofs.Rules.{header-rules}
 use Rattle.jobs.specs.Write.{Valid, writeOutcome}
 use Rattle.jobs.proofs.FineJob.{no-refusal, Fine, fine, good-group}
 use Rattle.rules.specs.Openings.{Opens, OpensTo, listAt}
@@ -34,6 +37,7 @@ use Rattle.jobs.proofs.Lists.{standing-all}
 use Rattle.whole.proofs.Complete.Rounds.{Reach, rounds}
 use Rattle.rules.proofs.Places.{stands-whole, stands-left, stands-right, half-stands, word-stands, part-stands}
 use Rattle.jobs.proofs.Counting.{first-reached}
+use Rattle.jobs.proofs.Positions.{round-is}
 
 module _ (hash : List ℕ → List ℕ) (job : Job) (f : Fine hash job) where
   abbrev g : Parameters
@@ -107,27 +111,15 @@ module _ (hash : List ℕ → List ℕ) (job : Job) (f : Fine hash job) where
   unfolding board
   long = omega (arith, length-append (job .label) later, f .labelled)
 
-  header-good : headerFault hash s ≡ 0
-  unfolding headerFault firstFault
-  header-good =
-      rw (
-        le-leb 54 (length s) (omega (arith, long)),
-        marked,
-        read-n,
-        read-K,
-        read-p,
-        read-q,
-        read-g0,
-        read-g1,
-        read-counter,
-        read-label,
-        le-leb 2 (job .n) (f .n-low),
-        le-leb (job .n) 8 (f .n-high),
-        le-leb 1 (job .K) (f .K-low),
-        le-leb (job .K) 1000 (f .K-high),
-        f .ordered,
-        f .generated,
-      )
+  header-kept : HeaderRules hash ranked s
+  header-kept =
+      record {
+        fits = omega (arith, long);
+        marked = marked;
+        sized = rw (header-same, le-leb 2 (job .n) (f .n-low), le-leb (job .n) 8 (f .n-high), le-leb 1 (job .K) (f .K-low), le-leb (job .K) 1000 (f .K-high));
+        ordered = rw header-same (f .ordered);
+        generated = rw (header-same, read-counter) (f .generated);
+      }
 
   begun : Reach hash job s (job .n) start 0 [] 0
   unfolding roundAt listAt
@@ -141,7 +133,7 @@ module _ (hash : List ℕ → List ℕ) (job : Job) (f : Fine hash job) where
       }
 
 pub written : (hash : List ℕ → List ℕ) (job : Job) → Valid hash job → IsWritten hash job (board hash job) (plainResult job)
-unfolding checkBoard boardLength writeOutcome
+unfolding checkModel boardLength writeOutcome
 written hash job v =
     let f = fine hash job v in
     let s = board hash job in
@@ -149,7 +141,7 @@ written hash job v =
     let e = header-same hash job f in
     let w = rounds hash job s f e (job .n) start 0 [] 0 (begun hash job f) in
     let a : checkBoard hash s ≡ accepted (r .rounds) (r .order) (r .winner) =
-    rw (header-good hash job f) (subst⁻¹ (λ h. checkFrom hash s h (h .n) start 0 0 ≡ accepted (r .rounds) (r .order) (r .winner)) e (w .0)) in
+    rw (header-rules hash ranked s .1 (header-kept hash job f)) (subst⁻¹ (λ h. checkFrom hash s h (h .n) start 0 0 ≡ accepted (r .rounds) (r .order) (r .winner)) e (w .0)) in
     let o : Opens s (rankingOf job) (r .rounds) =
     record {
       full = subst⁻¹ (λ h. (k : ℕ) → k < h .K → isRanking (h .n) (rankingOf job k) ≡ true) e (f .ranked);
@@ -160,7 +152,7 @@ written hash job v =
     let p : IsPlain s (r .rounds) (r .order) (r .winner) r =
     subst (λ h. IsPlain s (r .rounds) (r .order) (r .winner) (plainCount (h .n) (table (h .K) (rankingOf job)))) e
     (sound hash s (r .rounds) (r .order) (r .winner) (rankingOf job) a o) in
-    let l : length s ≡ boardLength job = subst (λ h. length s ≡ roundAt (h .n) (h .K) (r .rounds)) e (p .whole) in
+    let l : length s ≡ boardLength job = subst (λ h. length s ≡ roundAt (h .n) (h .K) (r .rounds)) e (p .whole ∙ round-is s (header s) (r .rounds)) in
     record {
       heads = e;
       accepts = a;

@@ -8,7 +8,7 @@ use mathlib.Core.Option.{some}
 use native.Mathlib.Omega.{arith}
 use lib.ListN.{getElem?}
 use Rattle.numbers.proofs.Tests.{by-cases}
-use Rattle.rules.specs.Check.{Test, firstFault}
+use Rattle.rules.specs.Tests.{Test, firstFault}
 use Rattle.rules.proofs.Faults.{none-some}
 use Rattle.whole.specs.SecondDemand.{FirstFails}
 

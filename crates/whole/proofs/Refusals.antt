@@ -8,19 +8,23 @@ use native.Mathlib.Omega.{arith}
 use lib.Dec.{eqb}
 use lib.ListN.{length, length-append}
 use borrow.Author.Tests.{leb-true, eqb-true, eqb-false, eq-eqb, ne-eqb}
-use Rattle.rules.specs.Records.{roundAt}
-use Rattle.rules.specs.Group.{sizes}
 use Rattle.rules.specs.Count.{countsOf, countFrom, plainCount, member, Standing, start, next, closes, isRanking}
 use Rattle.jobs.specs.Job.{Job, rankingOf}
 use Rattle.jobs.specs.Write.{rankingsGood, jobFault, firstBad, badRanking, boardWritten, jobRefused, writeOutcome}
 use Rattle.numbers.proofs.Search.{extend}
-use Rattle.rules.specs.Check.{refused, Test, firstFault, Header, header, sheetFields, sheetFault, headerFault, recordFault, checkBoard}
+use Rattle.rules.specs.Tests.{Test, firstFault}
+use Rattle.rules.specs.Header.{ranked, sizes, Header, header, headerFault}
+use Rattle.rules.specs.Ballot.{ballotFault}
+use Rattle.rules.specs.Shift.{shiftFault}
+use Rattle.rules.specs.Sheet.{sheetFields, sheetFault}
+use Rattle.rules.specs.Check.{roundsRead, refused, recordFault, roundSheetFault, checkBoard}
 use Rattle.whole.specs.Refusals.{BoardRefusal, JobRefusal, Refusals}
 use Rattle.numbers.proofs.Tests.{by-cases, or-false-left, and-true, all-true}
 use Rattle.jobs.proofs.FineJob.{valid, no-refusal}
 use Rattle.rules.proofs.Faults.{fault-none, fault-is}
+use Rattle.rules.proofs.Positions.{number-is}
 use Rattle.whole.proofs.Sound.Accepted.{header-good}
-use Rattle.whole.specs.SecondDemand.{outBefore, dueAt, FirstBroken, in-header, in-record, in-sheet, at-end}
+use Rattle.whole.specs.SecondDemand.{roundPlace, outBefore, dueAt, sheetNumber, FirstBroken, in-header, in-record, in-sheet, at-end}
 use Rattle.whole.proofs.SecondDemand.{Passed, Open, passed-of, passed-fewer, of-open, next-number, early, sheet-fits, second-demand}
 
 abbrev Low : ℕ → Type 0
@@ -33,57 +37,58 @@ low-none = rw fault-none (omega arith)
 low : (t : Test) (ts : List Test) → t .refusal ≤ 12 → Low (firstFault ts) → Low (firstFault (t ∷ ts))
 low t ts l = fault-is Low t ts (λ _. l)
 
-low-fields : (s : List ℕ) (h : Header) (m i : ℕ) (ts : List Test) → Low (firstFault ts) → Low (firstFault (sheetFields s h m i ++ ts))
+low-fields : (s : List ℕ) (h : Header) (at i : ℕ) (ts : List Test) → Low (firstFault ts) → Low (firstFault (sheetFields s h at i ++ ts))
 unfolding sheetFields
-low-fields s h m zero ts l = l
-low-fields s h m (suc i) ts l = rw append-assoc (low-fields s h m i _ (low _ _ (omega arith) (low _ _ (omega arith) l)))
+low-fields s h at zero ts l = l
+low-fields s h at (suc i) ts l = rw append-assoc (low-fields s h at i _ (low _ _ (omega arith) (low _ _ (omega arith) l)))
 
 module _ (hash : List ℕ → List ℕ) (s : List ℕ) where
-  low-header : Low (headerFault hash s)
+  low-header : Low (headerFault hash ranked s)
   unfolding headerFault
   low-header =
       low _ _ (omega arith) (low _ _ (omega arith) (low _ _ (omega arith) (low _ _ (omega arith) (low _ _ (omega arith) low-none))))
 
   module _ (h : Header) where
     low-record : (a m k : ℕ) → Low (recordFault hash s h a m k)
-    unfolding recordFault
+    unfolding recordFault ballotFault shiftFault
     low-record a zero k =
         low _ _ (omega arith) (low _ _ (omega arith) (low _ _ (omega arith) (low _ _ (omega arith) (low _ _ (omega arith) low-none))))
     low-record a (suc m) k =
         low _ _ (omega arith) (low _ _ (omega arith) (low _ _ (omega arith) (low _ _ (omega arith) (low _ _ (omega arith) low-none))))
 
-    low-sheet : (m out : ℕ) → Low (sheetFault s h m out)
+    low-sheet : (m out : ℕ) → Low (roundSheetFault s h m out)
     unfolding sheetFault
     low-sheet m out =
-        low _ _ (omega arith) (low _ _ (omega arith) (low _ _ (omega arith) (low-fields s h m (h .n) _ (low _ _ (omega arith) (low _ _ (omega arith) low-none)))))
+        low _ _ (omega arith) (low _ _ (omega arith) (low _ _ (omega arith) (low-fields s h _ (h .n) _ (low _ _ (omega arith) (low _ _ (omega arith) low-none)))))
 
   -- round m begins on the board
-  begins : (m : ℕ) → Passed hash s m → roundAt (header s .n) (header s .K) m ≤ length s
-  unfolding roundAt
+  begins : (m : ℕ) → Passed hash s m → roundPlace s m ≤ length s
+  unfolding roundsRead
   begins zero p = p .head .fits
   begins (suc m) p = sheet-fits hash s m (p .sheets m (omega arith))
 
   -- a refusal in round m
-  named : (m number k : ℕ) → Passed hash s m → Open hash s m → 1 ≤ number → Low number → k ≤ (m + 1) * (header s .K + 1) + 1 → BoardRefusal s number k
-  named m number k p o low high within =
+  named : (m refusal number : ℕ) → Passed hash s m → Open hash s m → 1 ≤ refusal → Low refusal → number ≤ sheetNumber s m + 1 → BoardRefusal s refusal number
+  unfolding roundsRead
+  named m refusal number p o low high within =
       let early = early hash s m (p .head) o in
       let good = header-good hash s (p .head) in
       record {
         low = low;
         high = high;
-        rounds = m + 1;
+        rounds = suc m;
         few = omega arith;
         stands = λ r q. let same : r ≡ m = omega arith in rw same (begins m p);
         within = within;
         most =
             let up : (m + 1) * (header s .K + 1) ≤ 7 * (header s .K + 1) = mul-le-mul-right (header s .K + 1) (omega (arith, good .eight)) in
-            omega (arith, good .thousand);
+            omega (arith, good .thousand, number-is s (header s) m (header s .K));
       }
 
-  pub board-refusal : (number k : ℕ) → checkBoard hash s ≡ refused number k → BoardRefusal s number k
-  board-refusal number k e = go (second-demand hash .refused-iff s number k .0 e)
+  pub board-refusal : (refusal number : ℕ) → checkBoard hash s ≡ refused refusal number → BoardRefusal s refusal number
+  board-refusal refusal number e = go (second-demand hash .refused-iff s refusal number .0 e)
     where
-      go : FirstBroken hash s number k → BoardRefusal s number k
+      go : FirstBroken hash s refusal number → BoardRefusal s refusal number
       go (in-header q broken low) =
           record {
             low = low;
@@ -95,12 +100,13 @@ module _ (hash : List ℕ → List ℕ) (s : List ℕ) where
             most = omega arith;
           }
       go (in-record m j l q before o broken low) =
-          named m number k (passed-of hash s m j (rw q at before)) (of-open hash s m j (rw q at o)) low (rw (← broken) (low-record (header s) (outBefore s m) m j)) (omega arith)
+          named m refusal number (passed-of hash s m j (rw q at before)) (of-open hash s m j (rw q at o)) low (rw (← broken) (low-record (header s) (outBefore s m) m j))
+          (omega (arith, number-is s (header s) m j, number-is s (header s) m (header s .K)))
       go (in-sheet m q before o broken low) =
-          named m number k (passed-of hash s m (header s .K) (rw q at before)) (of-open hash s m (header s .K) (rw q at o)) low
+          named m refusal number (passed-of hash s m (header s .K) (rw q at before)) (of-open hash s m (header s .K) (rw q at o)) low
           (rw (← broken) (low-sheet (header s) m (dueAt s m))) (omega arith)
       go (at-end m q before o closed remain twelve) =
-          named m number k (passed-fewer hash s (passed-of hash s (suc m) 0 (rw (q, next-number hash s m) at before))) (of-open hash s m (header s .K) o) (omega arith) (omega arith) (omega arith)
+          named m refusal number (passed-fewer hash s (passed-of hash s (suc m) 0 (rw (q, next-number hash s m) at before))) (of-open hash s m (header s .K) o) (omega arith) (omega arith) (omega arith)
 
 -- ---- jobs
 written-not-refused : {l rounds winner number w : ℕ} {order : List ℕ} → boardWritten l rounds order winner ≡ jobRefused number w → ⊥
@@ -162,7 +168,7 @@ rankings-bad hash job room good =
 few-rankings : (hash : List ℕ → List ℕ) (job : Job) (room : ℕ) → jobFault hash job room ≡ 13 → job .K ≤ 1000
 unfolding jobFault firstFault
 few-rankings hash job room z =
-    by-cases (sizes (job .n) (job .K))
+    by-cases (sizes ranked (job .n) (job .K))
     (λ e. let w = simp and-eq-true-iff at e in leb-true (job .K) 1000 (w .1))
     (λ e. absurd (omega (arith, rw e at z)))
 

@@ -12,33 +12,17 @@ use lib.ListN.{length, length-append}
 use borrow.Author.Tests.{leb-true, leb-false, eqb-true, eqb-false, eq-eqb, ne-eqb}
 use Rattle.numbers.proofs.Search.{extend}
 use Rattle.numbers.proofs.Tests.{by-cases, or-false-left}
-use Rattle.rules.specs.Records.{roundAt, recordAt, recordNumber, sheetLength}
 use Rattle.rules.specs.Count.{closes, wins}
-use Rattle.rules.specs.Check.{Verdict, accepted, refused, Header, header, place, counts, headerFault, recordFault, sheetFault, checkFrom, checkBoard}
+use Rattle.rules.specs.Header.{ranked, Header, header, headerFault}
+use Rattle.rules.specs.Check.{Verdict, accepted, refused, recordsRead, roundsRead, counts, recordFault, roundSheetFault, checkFrom, checkModel, checkBoard}
 use Rattle.whole.specs.Rules.{HeaderRules}
-use Rattle.whole.specs.SecondDemand.{standingAt, outBefore, closesAt, dueAt, ballotNumber, sheetNumber, RecordHolds, SheetHolds, EveryRuleHolds, HoldsBefore, OpenBefore, FirstBroken, in-header, in-record, in-sheet, at-end, SecondDemand}
+use Rattle.whole.specs.SecondDemand.{roundPlace, standingAt, outBefore, closesAt, dueAt, ballotNumber, sheetNumber, RecordHolds, SheetHolds, EveryRuleHolds, HoldsBefore, OpenBefore, FirstBroken, in-header, in-record, in-sheet, at-end, SecondDemand}
 use Rattle.rules.proofs.Faults.{Faulty, faulty-or-none}
+use Rattle.rules.proofs.Positions.{number-is}
 use Rattle.whole.proofs.FirstFails.{first-fails}
-use Rattle.whole.proofs.Rules.{header-rules, record-rules, sheet-rules}
+use Rattle.whole.proofs.Rules.{header-rules, record-rules, round-sheet-rules}
 use Rattle.whole.proofs.Sound.Accepted.{header-good}
 use Rattle.whole.proofs.Verdicts.{in-a-record, in-the-sheet, round-read}
-
--- a record's number below another's: it stands in an earlier round, or before it in the same
-number-below : (K r j m k : ℕ) → k ≤ K → recordNumber K r j < recordNumber K m k → (r < m) ⊎ ((r ≡ m) × (j < k))
-number-below K r j m k b l =
-    by-cases (leb m r)
-    (λ e.
-    ⊎-elim
-    (λ (q : m ≡ r). inr (sym q, omega (arith, rw (← q) at l)))
-    (λ (later : m < r). let up : (m + 1) * (K + 1) ≤ r * (K + 1) = mul-le-mul-right (K + 1) (omega arith) in absurd (omega arith))
-    (eq-or-lt-of-le (leb-true m r e)))
-    (λ e. inl (leb-false m r e))
-
-sheet-below : (K r m k : ℕ) → k ≤ K → recordNumber K r K < recordNumber K m k → r < m
-sheet-below K r m k b l = ⊎-elim (λ (e : r < m). e) (λ (e : (r ≡ m) × (K < k)). absurd (omega (arith, e .1))) (number-below K r K m k b l)
-
-number-above : (K r j m k : ℕ) → r < m → j ≤ K → recordNumber K r j < recordNumber K m k
-number-above K r j m k l b = let up : (r + 1) * (K + 1) ≤ m * (K + 1) = mul-le-mul-right (K + 1) (omega arith) in omega arith
 
 module _ (hash : List ℕ → List ℕ) (s : List ℕ) where
   abbrev h : Header
@@ -47,9 +31,28 @@ module _ (hash : List ℕ → List ℕ) (s : List ℕ) where
   abbrev K : ℕ
   K = header s .K
 
+  -- a record's number below another's: it stands in an earlier round, or before it in the same
+  number-below : (r j m k : ℕ) → k ≤ K → ballotNumber s r j < ballotNumber s m k → (r < m) ⊎ ((r ≡ m) × (j < k))
+  number-below r j m k b l =
+      let l′ : 1 + r * (K + 1) + j < 1 + m * (K + 1) + k = rw (number-is s h r j, number-is s h m k) at l in
+      by-cases (leb m r)
+      (λ e.
+      ⊎-elim
+      (λ (q : m ≡ r). inr (sym q, omega (arith, rw (← q) at l′)))
+      (λ (later : m < r). let up : (m + 1) * (K + 1) ≤ r * (K + 1) = mul-le-mul-right (K + 1) (omega arith) in absurd (omega arith))
+      (eq-or-lt-of-le (leb-true m r e)))
+      (λ e. inl (leb-false m r e))
+
+  sheet-below : (r m k : ℕ) → k ≤ K → sheetNumber s r < ballotNumber s m k → r < m
+  sheet-below r m k b l = ⊎-elim (λ (e : r < m). e) (λ (e : (r ≡ m) × (K < k)). absurd (omega (arith, e .1))) (number-below r K m k b l)
+
+  number-above : (r j m k : ℕ) → r < m → j ≤ K → ballotNumber s r j < ballotNumber s m k
+  number-above r j m k l b =
+      let up : (r + 1) * (K + 1) ≤ m * (K + 1) = mul-le-mul-right (K + 1) (omega arith) in omega (arith, number-is s h r j, number-is s h m k)
+
   -- before round m no rule is broken
   pub record Passed (m : ℕ) : Type 0 where
-    pub head : HeaderRules hash s
+    pub head : HeaderRules hash ranked s
     pub records : (r k : ℕ) → r < m → k < K → RecordHolds hash s r k
     pub sheets : (r : ℕ) → r < m → SheetHolds hash s r
 
@@ -57,7 +60,7 @@ module _ (hash : List ℕ → List ℕ) (s : List ℕ) where
   abbrev pub Open : (m : ℕ) → Type 0
   Open m = (r : ℕ) → r < m → closesAt s r ≡ false
 
-  passed-start : HeaderRules hash s → Passed 0
+  passed-start : HeaderRules hash ranked s → Passed 0
   passed-start w = record { head = w; records = λ r k l. absurd (omega arith); sheets = λ r l. absurd (omega arith) }
 
   pub passed-fewer : {m : ℕ} → Passed (suc m) → Passed m
@@ -77,30 +80,31 @@ module _ (hash : List ℕ → List ℕ) (s : List ℕ) where
       record {
         head = λ _. p .head;
         records = λ r j c l.
-            ⊎-elim (λ (e : r < m). p .records r j e c) (λ (e : (r ≡ m) × (j < k)). subst (λ (r : ℕ). RecordHolds hash s r j) (sym (e .0)) (here j (e .1))) (number-below K r j m k b l);
-        sheets = λ r l. p .sheets r (sheet-below K r m k b l);
+            ⊎-elim (λ (e : r < m). p .records r j e c) (λ (e : (r ≡ m) × (j < k)). subst (λ (r : ℕ). RecordHolds hash s r j) (sym (e .0)) (here j (e .1))) (number-below r j m k b l);
+        sheets = λ r l. p .sheets r (sheet-below r m k b l);
       }
 
   open-of : (m k : ℕ) → Open m → k ≤ K → OpenBefore hash s (ballotNumber s m k)
-  open-of m k o b r l = o r (sheet-below K r m k b l)
+  open-of m k o b r l = o r (sheet-below r m k b l)
 
   pub passed-of : (m k : ℕ) → HoldsBefore hash s (ballotNumber s m k) → Passed m
   passed-of m k w =
       record {
-        head = w .head (omega arith);
-        records = λ r j l c. w .records r j c (number-above K r j m k l (omega arith));
-        sheets = λ r l. w .sheets r (number-above K r K m k l (omega arith));
+        head = w .head (omega (arith, number-is s h m k));
+        records = λ r j l c. w .records r j c (number-above r j m k l (omega arith));
+        sheets = λ r l. w .sheets r (number-above r K m k l (omega arith));
       }
 
   pub of-open : (m k : ℕ) → OpenBefore hash s (ballotNumber s m k) → Open m
-  of-open m k o r l = o r (number-above K r K m k l (omega arith))
+  of-open m k o r l = o r (number-above r K m k l (omega arith))
 
   round-of : (m k : ℕ) → k ≤ K → HoldsBefore hash s (ballotNumber s m k) → (j : ℕ) → j < k → recordFault hash s h (outBefore s m) m j ≡ 0
-  round-of m k b w j l = record-rules hash s h (outBefore s m) m j .1 (w .records m j (omega arith) (omega arith))
+  round-of m k b w j l = record-rules hash s h (outBefore s m) m j .1 (w .records m j (omega arith) (omega (arith, number-is s h m j, number-is s h m k)))
 
   -- past the sheet of round m
   pub next-number : (m : ℕ) → sheetNumber s m + 1 ≡ ballotNumber s (suc m) 0
-  next-number m = omega arith
+  unfolding recordsRead roundsRead
+  next-number m = refl
 
   -- ---- the checker reaches round m
   sheets-counted : (m : ℕ) → length (standingAt s m .sheets) ≡ m
@@ -108,7 +112,7 @@ module _ (hash : List ℕ → List ℕ) (s : List ℕ) where
   sheets-counted zero = refl
   sheets-counted (suc m) = omega (arith, length-append (standingAt s m .sheets) (counts s h m ∷ []), sheets-counted m)
 
-  pub early : (m : ℕ) → HeaderRules hash s → Open m → m + 2 ≤ h .n
+  pub early : (m : ℕ) → HeaderRules hash ranked s → Open m → m + 2 ≤ h .n
   unfolding closes
   early zero w o = header-good hash s w .two
   early (suc m) w o =
@@ -121,48 +125,48 @@ module _ (hash : List ℕ → List ℕ) (s : List ℕ) where
 
   module _ (m fuel : ℕ) where
     record-refused : (k : ℕ) → k < K → ((j : ℕ) → j < k → recordFault hash s h (outBefore s m) m j ≡ 0) → 1 ≤ recordFault hash s h (outBefore s m) m k →
-        Round m fuel ≡ refused (recordFault hash s h (outBefore s m) m k) (recordNumber K m k)
+        Round m fuel ≡ refused (recordFault hash s h (outBefore s m) m k) (ballotNumber s m k)
     unfolding checkFrom
     record-refused k l earlier bad = in-a-record hash s h (standingAt s m) m (outBefore s m) _ k l earlier (λ z. omega arith)
 
     module _ (good : (k : ℕ) → k < K → recordFault hash s h (outBefore s m) m k ≡ 0) where
-      sheet-refused : 1 ≤ sheetFault s h m (dueAt s m) → Round m fuel ≡ refused (sheetFault s h m (dueAt s m)) (recordNumber K m K)
+      sheet-refused : 1 ≤ roundSheetFault s h m (dueAt s m) → Round m fuel ≡ refused (roundSheetFault s h m (dueAt s m)) (sheetNumber s m)
       unfolding checkFrom
       sheet-refused bad = in-the-sheet hash s h (standingAt s m) m (outBefore s m) _ good (λ z. omega arith)
 
-      module _ (sheet : sheetFault s h m (dueAt s m) ≡ 0) where
+      module _ (sheet : roundSheetFault s h m (dueAt s m) ≡ 0) where
         goes-on : closesAt s m ≡ false → Round m fuel ≡ checkFrom hash s h fuel (standingAt s (suc m)) (suc m) (outBefore s (suc m))
         unfolding checkFrom standingAt outBefore
         goes-on e = round-read hash s h (standingAt s m) m (outBefore s m) _ good sheet ∙ rw e
 
-        ends-here : closesAt s m ≡ true → length s ≡ roundAt (h .n) K (suc m) → Round m fuel ≡ accepted (m + 1) (standingAt s m .gone) (wins (h .n) (standingAt s m) (counts s h m))
-        unfolding checkFrom roundAt recordAt
-        ends-here e l = round-read hash s h (standingAt s m) m (outBefore s m) _ good sheet ∙ rw (e, eq-eqb (length s) (place h m K + sheetLength (h .n)) l)
+        ends-here : closesAt s m ≡ true → length s ≡ roundPlace s (suc m) → Round m fuel ≡ accepted (m + 1) (standingAt s m .gone) (wins (h .n) (standingAt s m) (counts s h m))
+        unfolding checkFrom roundsRead
+        ends-here e l = round-read hash s h (standingAt s m) m (outBefore s m) _ good sheet ∙ rw (e, eq-eqb (length s) (roundPlace s (suc m)) l)
 
-        bytes-remain : closesAt s m ≡ true → roundAt (h .n) K (suc m) < length s → Round m fuel ≡ refused 12 (recordNumber K m K + 1)
-        unfolding checkFrom roundAt recordAt
+        bytes-remain : closesAt s m ≡ true → roundPlace s (suc m) < length s → Round m fuel ≡ refused 12 (sheetNumber s m + 1)
+        unfolding checkFrom roundsRead
         bytes-remain e l =
-            round-read hash s h (standingAt s m) m (outBefore s m) _ good sheet ∙ rw (e, ne-eqb (length s) (place h m K + sheetLength (h .n)) (λ z. omega arith))
+            round-read hash s h (standingAt s m) m (outBefore s m) _ good sheet ∙ rw (e, ne-eqb (length s) (roundPlace s (suc m)) (λ z. omega arith))
 
   -- it comes to round m if no rule is broken before
   reach : (m fuel : ℕ) → Passed m → Open m → fuel + m ≡ h .n → checkBoard hash s ≡ checkFrom hash s h fuel (standingAt s m) m (outBefore s m)
-  unfolding checkBoard standingAt outBefore
-  reach zero fuel p o e = let same : fuel ≡ h .n = omega arith in rw (header-rules hash s .1 (p .head), same)
+  unfolding checkModel standingAt outBefore
+  reach zero fuel p o e = let same : fuel ≡ h .n = omega arith in rw (header-rules hash ranked s .1 (p .head), same)
   reach (suc m) fuel p o e =
       reach m (suc fuel) (passed-fewer p) (λ r l. o r (omega arith)) (omega arith)
-      ∙ goes-on m fuel (λ k l. record-rules hash s h (outBefore s m) m k .1 (p .records m k (omega arith) l)) (sheet-rules s h m (dueAt s m) .1 (p .sheets m (omega arith))) (o m (omega arith))
+      ∙ goes-on m fuel (λ k l. record-rules hash s h (outBefore s m) m k .1 (p .records m k (omega arith) l)) (round-sheet-rules s h m (dueAt s m) .1 (p .sheets m (omega arith))) (o m (omega arith))
 
-  pub sheet-fits : (m : ℕ) → SheetHolds hash s m → roundAt (h .n) K (suc m) ≤ length s
-  unfolding roundAt recordAt
+  pub sheet-fits : (m : ℕ) → SheetHolds hash s m → roundPlace s (suc m) ≤ length s
+  unfolding roundsRead
   sheet-fits m w = w .fits
 
   -- ---- what the verdict says
   abbrev Says : Verdict → Type 0
   Says (accepted rounds order winner) = EveryRuleHolds hash s rounds order winner
-  Says (refused number place) = FirstBroken hash s number place
+  Says (refused refusal number) = FirstBroken hash s refusal number
 
   -- of the round that closes the board
-  closing : (m : ℕ) → Passed (suc m) → Open m → closesAt s m ≡ true → length s ≡ roundAt (h .n) K (suc m) →
+  closing : (m : ℕ) → Passed (suc m) → Open m → closesAt s m ≡ true → length s ≡ roundPlace s (suc m) →
       EveryRuleHolds hash s (m + 1) (standingAt s m .gone) (wins (h .n) (standingAt s m) (counts s h m))
   closing m p o e l =
       record {
@@ -192,16 +196,16 @@ module _ (hash : List ℕ → List ℕ) (s : List ℕ) where
       (in-record m k (f .below) refl (before-of m k p small (λ j l. record-rules hash s h (outBefore s m) m j .0 (f .earlier j l))) (open-of m k o small) refl low))
       (λ (good : (k : ℕ) → k < K → recordFault hash s h (outBefore s m) m k ≡ 0).
       let records : (k : ℕ) → k < K → RecordHolds hash s m k = λ k l. record-rules hash s h (outBefore s m) m k .0 (good k l) in
-      by-cases (eqb (sheetFault s h m (dueAt s m)) 0)
+      by-cases (eqb (roundSheetFault s h m (dueAt s m)) 0)
       (λ z.
       let f = eqb-true _ _ z in
-      let sheet = sheet-rules s h m (dueAt s m) .0 f in
+      let sheet = round-sheet-rules s h m (dueAt s m) .0 f in
       let p′ = passed-more p records sheet in
       by-cases (closesAt s m)
       (λ c.
       ⊎-elim
-      (λ (l : roundAt (h .n) K (suc m) ≡ length s). subst Says (sym (ends-here m fuel good f c (sym l))) (closing m p′ o c (sym l)))
-      (λ (l : roundAt (h .n) K (suc m) < length s).
+      (λ (l : roundPlace s (suc m) ≡ length s). subst Says (sym (ends-here m fuel good f c (sym l))) (closing m p′ o c (sym l)))
+      (λ (l : roundPlace s (suc m) < length s).
       subst Says (sym (bytes-remain m fuel good f c l))
       (at-end m refl (subst (HoldsBefore hash s) (sym (next-number m)) (before-of (suc m) 0 p′ (omega arith) (λ j l. absurd (omega arith)))) (open-of m K o (omega arith)) c l refl))
       (eq-or-lt-of-le (sheet-fits m sheet)))
@@ -212,10 +216,10 @@ module _ (hash : List ℕ → List ℕ) (s : List ℕ) where
       (faulty-or-none K (recordFault hash s h (outBefore s m) m))
 
   board-said : Says (checkBoard hash s)
-  unfolding checkBoard
+  unfolding checkModel
   board-said =
-      by-cases (eqb (headerFault hash s) 0)
-      (λ z. rw z (unfold standingAt outBefore in (said (h .n) 0 (passed-start (header-rules hash s .0 (eqb-true _ _ z))) (λ r l. absurd (omega arith)) (omega arith))))
+      by-cases (eqb (headerFault hash ranked s) 0)
+      (λ z. rw z (unfold standingAt outBefore in (said (h .n) 0 (passed-start (header-rules hash ranked s .0 (eqb-true _ _ z))) (λ r l. absurd (omega arith)) (omega arith))))
       (λ z. rw z (in-header refl refl (pos-of-ne-zero (eqb-false _ _ z))))
 
   -- ---- the verdict that is due
@@ -232,44 +236,44 @@ module _ (hash : List ℕ → List ℕ) (s : List ℕ) where
         records = λ r k l. w .records r k (omega arith);
         sheets = λ r l. w .sheets r (omega arith);
       } in
-      let whole : length s ≡ roundAt (h .n) K (suc m) = rw (w .rounds-are, add-one) at (w .ends) in
+      let whole : length s ≡ roundPlace s (suc m) = rw (w .rounds-are, add-one) at (w .ends) in
       reached m p (w .not-before)
-      ∙ ends-here m _ (λ k l. record-rules hash s h (outBefore s m) m k .1 (w .records m k one l)) (sheet-rules s h m (dueAt s m) .1 (w .sheets m one)) (w .closed) whole
+      ∙ ends-here m _ (λ k l. record-rules hash s h (outBefore s m) m k .1 (w .records m k one l)) (round-sheet-rules s h m (dueAt s m) .1 (w .sheets m one)) (w .closed) whole
       ∙ cc (w .rounds-are, w .order-is, w .winner-is)
 
-  refuses : (number ranking : ℕ) → FirstBroken hash s number ranking → checkBoard hash s ≡ refused number ranking
-  unfolding checkBoard
-  refuses number ranking (in-header e broken low) = rw (ne-eqb (headerFault hash s) 0 (λ z. omega arith), broken, e)
-  refuses number ranking (in-record m k l e before o broken low) =
+  refuses : (refusal number : ℕ) → FirstBroken hash s refusal number → checkBoard hash s ≡ refused refusal number
+  unfolding checkModel
+  refuses refusal number (in-header e broken low) = rw (ne-eqb (headerFault hash ranked s) 0 (λ z. omega arith), broken, e)
+  refuses refusal number (in-record m k l e before o broken low) =
       let w = rw e at before in
       reached m (passed-of m k w) (of-open m k (rw e at o)) ∙ record-refused m _ k l (round-of m k (omega arith) w) (rw broken low) ∙ cc
-  refuses number ranking (in-sheet m e before o broken low) =
+  refuses refusal number (in-sheet m e before o broken low) =
       let w = rw e at before in
       reached m (passed-of m K w) (of-open m K (rw e at o)) ∙ sheet-refused m _ (round-of m K (omega arith) w) (rw broken low) ∙ cc
-  refuses number ranking (at-end m e before o closed remain numbered) =
+  refuses refusal number (at-end m e before o closed remain numbered) =
       let p = passed-of (suc m) 0 (rw (e, next-number m) at before) in
       reached m (passed-fewer p) (of-open m K o)
-      ∙ bytes-remain m _ (λ k l. record-rules hash s h (outBefore s m) m k .1 (p .records m k (omega arith) l)) (sheet-rules s h m (dueAt s m) .1 (p .sheets m (omega arith))) closed remain
+      ∙ bytes-remain m _ (λ k l. record-rules hash s h (outBefore s m) m k .1 (p .records m k (omega arith) l)) (round-sheet-rules s h m (dueAt s m) .1 (p .sheets m (omega arith))) closed remain
       ∙ cc
 
   says : (v : Verdict) → checkBoard hash s ≡ v → Says v
   says v e = subst Says e board-said
 
-  either : ((rounds : ℕ) × (order : List ℕ) × (winner : ℕ) × EveryRuleHolds hash s rounds order winner) ⊎ ((number : ℕ) × (place : ℕ) × FirstBroken hash s number place)
+  either : ((rounds : ℕ) × (order : List ℕ) × (winner : ℕ) × EveryRuleHolds hash s rounds order winner) ⊎ ((refusal : ℕ) × (number : ℕ) × FirstBroken hash s refusal number)
   either = go (checkBoard hash s) board-said
     where
-      go : (v : Verdict) → Says v → ((rounds : ℕ) × (order : List ℕ) × (winner : ℕ) × EveryRuleHolds hash s rounds order winner) ⊎ ((number : ℕ) × (place : ℕ) × FirstBroken hash s number place)
+      go : (v : Verdict) → Says v → ((rounds : ℕ) × (order : List ℕ) × (winner : ℕ) × EveryRuleHolds hash s rounds order winner) ⊎ ((refusal : ℕ) × (number : ℕ) × FirstBroken hash s refusal number)
       go (accepted rounds order winner) w = inl (rounds, order, winner, w)
-      go (refused number place) w = inr (number, place, w)
+      go (refused refusal number) w = inr (refusal, number, w)
 
 pub second-demand : (hash : List ℕ → List ℕ) → SecondDemand hash
 second-demand hash =
     record {
       accepted-iff = λ s rounds order winner. (says hash s (accepted rounds order winner), accepts hash s rounds order winner);
-      refused-iff = λ s number place. (says hash s (refused number place), refuses hash s number place);
+      refused-iff = λ s refusal number. (says hash s (refused refusal number), refuses hash s refusal number);
       either = either hash;
       first-fails = first-fails;
       header-tests = header-rules hash;
       record-tests = record-rules hash;
-      sheet-tests = sheet-rules;
+      sheet-tests = round-sheet-rules;
     }

@@ -19,11 +19,12 @@ use Rattle.jobs.proofs.Lists.{votes-sum, standing-all, first-standing, strike, 
 use Rattle.numbers.proofs.Tests.{or-false-left}
 use Rattle.numbers.proofs.Sums.{sum-same, sum-constant}
 use Rattle.whole.specs.ThirdDemand.{IsPlain, sheetsOn}
-use Rattle.whole.specs.Rules.{SheetRules}
-use Rattle.rules.specs.Check.{checkBoard, accepted, Header, header, outField, countField, counts, due}
-use Rattle.whole.specs.SecondDemand.{standingAt, outBefore, closesAt, EveryRuleHolds}
+use Rattle.rules.specs.Header.{Header, header}
+use Rattle.rules.specs.Sheet.{countsAt}
+use Rattle.rules.specs.Check.{checkBoard, accepted, outField, countField, counts, matrix}
+use Rattle.whole.specs.SecondDemand.{RoundSheetRules, standingAt, outBefore, closesAt, EveryRuleHolds}
 use Rattle.whole.proofs.SecondDemand.{second-demand}
-use Rattle.whole.proofs.Sound.Accepted.{Marked, round-marked, GoodHeader, header-good, firstB, firstY}
+use Rattle.whole.proofs.Sound.Accepted.{Marked, round-marked, GoodHeader, header-good}
 use Rattle.whole.proofs.Sound.Tally.{counted}
 use Rattle.rules.specs.Count.{Standing, start, next, leaves, closes, table, firstIn, votesFor, countsOf, ended, countFrom, plainCount}
 use Rattle.jobs.specs.Job.{remaining}
@@ -37,9 +38,6 @@ module _ (hash : List ℕ → List ℕ) (s : List ℕ) (rankings : ℕ → List 
   abbrev h : Header
   h = header s
 
-  abbrev countsAt : ℕ → List ℕ
-  countsAt m = counts s h m
-
   abbrev votes : List (List ℕ)
   votes = table (h .K) rankings
 
@@ -51,13 +49,13 @@ module _ (hash : List ℕ → List ℕ) (s : List ℕ) (rankings : ℕ → List 
   -- the standing count before round m, and what the ballots are to open to there
   record Reached (m : ℕ) (st : Standing) : Type 0 where
     early : suc m < h .n
-    sheets : st .sheets ≡ table m countsAt
+    sheets : st .sheets ≡ table m (counts s h)
     outs : st .gone ≡ table m (outField s h)
     lists : (k : ℕ) → listAt s rankings m k ≡ remaining (st .gone) (rankings k)
     earlier : (m′ : ℕ) → m′ < m → Sheeted m′
 
   sheets-counted : (m : ℕ) (st : Standing) → Reached m st → length (st .sheets) ≡ m
-  sheets-counted m st r = ap length (r .sheets) ∙ length-table m countsAt
+  sheets-counted m st r = ap length (r .sheets) ∙ length-table m (counts s h)
 
   gone-counted : (m : ℕ) (st : Standing) → Reached m st → length (st .gone) ≡ m
   gone-counted m st r = ap length (r .outs) ∙ length-table m (outField s h)
@@ -70,8 +68,8 @@ module _ (hash : List ℕ → List ℕ) (s : List ℕ) (rankings : ℕ → List 
   at-start l = record { early = l; sheets = refl; outs = refl; lists = λ k. sym (standing-all (rankings k)); earlier = λ m′ b. absurd (omega arith) }
 
   -- after a sheet that does not close
-  goes-on : (m : ℕ) (st : Standing) → Reached m st → closes (h .n) st (countsAt m) (h .K) ≡ false → outField s h m ≡ leaves (h .n) st (countsAt m) →
-      Sheeted m → Reached (suc m) (next (h .n) st (countsAt m))
+  goes-on : (m : ℕ) (st : Standing) → Reached m st → closes (h .n) st (counts s h m) (h .K) ≡ false → outField s h m ≡ leaves (h .n) st (counts s h m) →
+      Sheeted m → Reached (suc m) (next (h .n) st (counts s h m))
   unfolding closes listAt table
   goes-on m st r c e sheet =
       let more = eqb-false (length (st .sheets) + 1) (h .n - 1) (or-false-left _ _ c) in
@@ -79,9 +77,9 @@ module _ (hash : List ℕ → List ℕ) (s : List ℕ) (rankings : ℕ → List 
       let before : suc m < h .n = r .early in
       record {
         early = omega arith;
-        sheets = ap (λ t. t ++ (countsAt m ∷ [])) (r .sheets);
+        sheets = ap (λ t. t ++ (counts s h m ∷ [])) (r .sheets);
         outs = cc (r .outs, e);
-        lists = λ k. simp (r .lists k, e) (strike (leaves (h .n) st (countsAt m)) (st .gone) (rankings k));
+        lists = λ k. simp (r .lists k, e) (strike (leaves (h .n) st (counts s h m)) (st .gone) (rankings k));
         earlier = extend Sheeted m (r .earlier) sheet;
       }
 
@@ -90,7 +88,7 @@ module _ (hash : List ℕ → List ℕ) (s : List ℕ) (rankings : ℕ → List 
     good = header-good hash s (w .head)
 
     -- the sheet's counts are the plain count's
-    count-right : (m due : ℕ) (st : Standing) → Reached m st → m < rounds → SheetRules s h m due → (i : ℕ) → i < h .n →
+    count-right : (m due : ℕ) (st : Standing) → Reached m st → m < rounds → RoundSheetRules s h m due → (i : ℕ) → i < h .n →
         countField s h m i ≡ votesFor (h .n) (st .gone) votes (suc i)
     count-right m due st r b sheet i l =
         counted (h .group) (good .orders) (good .generators)
@@ -101,28 +99,28 @@ module _ (hash : List ℕ → List ℕ) (s : List ℕ) (rankings : ℕ → List 
         ∙ sym (votes-table (h .n) (st .gone) (h .K) rankings (suc i))
       where
         opening : (k : ℕ) → k < h .K →
-            (x : ℕ) × Opening (h .group) (firstB hash s h m i k) (firstY hash s h m i k) x (cond (eqb (firstIn (h .n) (st .gone) (rankings k)) (suc i)) 1 0)
+            (x : ℕ) × Opening (h .group) (matrix s h m k .b 0 i) (matrix s h m k .y 0 i) x (cond (eqb (firstIn (h .n) (st .gone) (rankings k)) (suc i)) 1 0)
         opening k kl =
             let listed = ranked-processes (h .n) (rankings k) (o .full k kl) in
             rw (r .lists k, first-standing (h .n) (st .gone) (rankings k) listed, add-one) at (o .opens m k b kl .pairs 0 i (omega (arith, r .early)) l)
 
-    counts-right : (m due : ℕ) (st : Standing) → Reached m st → m < rounds → SheetRules s h m due → countsAt m ≡ countsOf (h .n) votes (st .gone)
-    unfolding counts countsOf
+    counts-right : (m due : ℕ) (st : Standing) → Reached m st → m < rounds → RoundSheetRules s h m due → counts s h m ≡ countsOf (h .n) votes (st .gone)
+    unfolding countsAt countsOf
     counts-right m due st r b sheet = table-same (h .n) _ _ (count-right m due st r b sheet)
 
-    sum-right : (m due : ℕ) (st : Standing) → Reached m st → m < rounds → SheetRules s h m due → sumBelow (h .n) (countField s h m) ≡ h .K
+    sum-right : (m due : ℕ) (st : Standing) → Reached m st → m < rounds → RoundSheetRules s h m due → sumBelow (h .n) (countField s h m) ≡ h .K
     sum-right m due st r b sheet = sum-same (h .n) _ _ (count-right m due st r b sheet) ∙ votes-sum (h .n) (h .K) (st .gone) rankings (o .full) (fewer m st r)
 
     all-marked : (m : ℕ) (st : Standing) → Reached m st → Sheeted m → sheetsOn s (suc m) ≡ suc m
     all-marked m st r sheet =
         sum-same (suc m) _ (λ _. 1) (λ m′ b. extend Sheeted m (r .earlier) sheet m′ b .marked) ∙ omega (arith, sum-constant (suc m) 1)
 
-    all-counts : (m : ℕ) (st : Standing) → Reached m st → table (suc m) countsAt ≡ st .sheets ++ (countsAt m ∷ [])
+    all-counts : (m : ℕ) (st : Standing) → Reached m st → table (suc m) (counts s h) ≡ st .sheets ++ (counts s h m ∷ [])
     unfolding table
-    all-counts m st r = ap (λ t. t ++ (countsAt m ∷ [])) (sym (r .sheets))
+    all-counts m st r = ap (λ t. t ++ (counts s h m ∷ [])) (sym (r .sheets))
 
     -- the round that closes the board
-    closing : (m : ℕ) → m ≡ w .last → Reached m (standingAt s m) → countsAt m ≡ countsOf (h .n) votes (standingAt s m .gone) → Sheeted m →
+    closing : (m : ℕ) → m ≡ w .last → Reached m (standingAt s m) → counts s h m ≡ countsOf (h .n) votes (standingAt s m .gone) → Sheeted m →
         IsPlain s rounds order winner (ended (h .n) (standingAt s m) (countsOf (h .n) votes (standingAt s m .gone)))
     closing m last r e sheet =
         let now : rounds ≡ suc m = omega (arith, w .rounds-are) in

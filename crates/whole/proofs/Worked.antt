@@ -18,10 +18,9 @@ use Rattle.group.specs.Arithmetic.{powMod}
 use Rattle.group.specs.Elements.{isElement}
 use Rattle.rules.specs.Group.{orders, derived, generators}
 use Rattle.rules.specs.Proofs.{statementHolds}
-use Rattle.rules.specs.Records.{roundAt}
 use Rattle.rules.specs.Count.{Standing, roundNumber, start, member, countOf, leaves, lowest, majority, closes, isRanking, table, plainCount}
 use Rattle.rules.specs.Openings.{without}
-use Rattle.jobs.specs.Job.{needed, roundDraws, boardLength}
+use Rattle.jobs.specs.Job.{needed, roundDraws, roundAt, boardLength}
 use Rattle.jobs.specs.Write.{Valid}
 use Rattle.whole.specs.Worked.{Pair, circle, smallJob, Circle, Worked}
 use Rattle.whole.proofs.Complete.{written}

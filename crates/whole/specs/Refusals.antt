@@ -5,23 +5,23 @@ use mathlib.Core.Logic.{_↔_}
 use mathlib.Core.Bool.{true, false}
 use mathlib.Core.List.{List, [], _∷_}
 use lib.ListN.{length}
-use Rattle.rules.specs.Records.{roundAt}
 use Rattle.rules.specs.Count.{member, isRanking, start, countFrom, plainCount}
-use Rattle.rules.specs.Check.{header, refused, checkBoard}
+use Rattle.rules.specs.Header.{header}
+use Rattle.rules.specs.Check.{roundsRead, refused, checkBoard}
 use Rattle.jobs.specs.Job.{Job, rankingOf, boardLength}
 use Rattle.jobs.specs.Write.{jobFault, jobRefused, writeOutcome, Valid}
 
 -- "The result of a refusal is its number and the record's number (with 12, the number of records read)"
-pub record BoardRefusal (s : List ℕ) (number place : ℕ) : Type 0 where
-  pub low : 1 ≤ number
-  pub high : number ≤ 12
+pub record BoardRefusal (s : List ℕ) (refusal number : ℕ) : Type 0 where
+  pub low : 1 ≤ refusal
+  pub high : refusal ≤ 12
   -- the rounds read, the last perhaps in part: those before it stand on the board in full
   pub rounds : ℕ
   pub few : rounds ≤ header s .n - 1
-  pub stands : (m : ℕ) → rounds ≡ suc m → roundAt (header s .n) (header s .K) m ≤ length s
-  pub within : place ≤ rounds * (header s .K + 1) + 1
+  pub stands : (m : ℕ) → rounds ≡ suc m → roundsRead s (header s) m .place ≤ length s
+  pub within : number ≤ roundsRead s (header s) rounds .number
   -- that is, of 7 rounds of 1,000 ballots and a sheet at the most
-  pub most : place ≤ 7008
+  pub most : number ≤ 7008
 
 -- "With 13 goes the first bad ranking from 1, or 0 for a wrong length; with the others 0."
 pub record JobRefusal (job : Job) (number ranking : ℕ) : Type 0 where
@@ -34,7 +34,7 @@ pub record JobRefusal (job : Job) (number ranking : ℕ) : Type 0 where
   pub most : ranking ≤ 1000
 
 pub record Refusals (hash : List ℕ → List ℕ) : Type 0 where
-  pub of-boards : (s : List ℕ) (number place : ℕ) → checkBoard hash s ≡ refused number place → BoardRefusal s number place
+  pub of-boards : (s : List ℕ) (refusal number : ℕ) → checkBoard hash s ≡ refused refusal number → BoardRefusal s refusal number
   pub of-jobs : (job : Job) (room number ranking : ℕ) → writeOutcome hash job room ≡ jobRefused number ranking → JobRefusal job number ranking
   -- a job is written just where it is valid and its board fits
   pub none : (job : Job) (room : ℕ) → (jobFault hash job room ≡ 0) ↔ (Valid hash job × (boardLength job ≤ room))

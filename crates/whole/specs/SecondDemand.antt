@@ -1,17 +1,33 @@
 -- The second demand as a statement about whole boards: a board is accepted if and only if every rule of 01's table, every proof equation and
 -- every tally equation holds; else the first broken rule is named. Rules.antt lists the rules, record by record.
--- Rounds and ballots count from 0 here; a board's header is `header s`.
-use Prim.Native.Nat.{ℕ, zero, suc, _+_, _≤_, _<_}
+-- Rounds and ballots count from 0 here; a board's header is `header s`. Each record stands where the one before it ends (`place`).
+use Prim.Native.Nat.{ℕ, zero, suc, _+_, _-_, _≤_, _<_}
 use mathlib.Core.Path.{_≡_}
 use mathlib.Core.Logic.{_↔_, _⊎_}
 use mathlib.Core.Bool.{Bool, true, false}
 use mathlib.Core.List.{List}
 use mathlib.Core.Option.{some}
 use lib.ListN.{length, getElem?}
-use Rattle.rules.specs.Records.{roundAt, recordNumber}
 use Rattle.rules.specs.Count.{Standing, start, next, leaves, wins, closes}
-use Rattle.rules.specs.Check.{accepted, refused, Test, firstFault, Header, header, counts, due, headerFault, recordFault, sheetFault, checkBoard}
-use Rattle.whole.specs.Rules.{HeaderRules, RecordRules, SheetRules}
+use Rattle.rules.specs.Tests.{Test, firstFault}
+use Rattle.rules.specs.Header.{ranked, Header, header, headerFault}
+use Rattle.rules.specs.Check.{accepted, refused, roundsRead, place, recordNumber, matrix, counts, due, recordFault, roundSheetFault, checkBoard}
+use Rattle.rules.specs.declared.Model.{Model}
+use Rattle.whole.specs.Rules.{HeaderRules, BallotRules, ShiftRules, SheetRules}
+
+-- ---- the records where they stand
+-- ballot k's record in round m: BA in the first round, SH in each further one, a having gone out in the round before
+abbrev pub RecordRules : (hash : List ℕ → List ℕ) (s : List ℕ) → Header → (a m k : ℕ) → Type 0
+RecordRules hash s h a zero k = BallotRules hash s h (place s h 0 k) (k + 1)
+RecordRules hash s h a (suc m) k = ShiftRules hash s h (h .n - suc m) (place s h (suc m) k) a (place s h m k) (k + 1)
+
+-- the sheet of round m; out: what its out field is to hold
+abbrev pub RoundSheetRules : (s : List ℕ) → Header → (m out : ℕ) → Type 0
+RoundSheetRules s h m out = SheetRules s h (place s h m (h .K)) (m + 1) (matrix s h m) out
+
+-- where round m starts, which is where the one before it ends
+abbrev pub roundPlace : (s : List ℕ) (m : ℕ) → ℕ
+roundPlace s m = roundsRead s (header s) m .place
 
 -- ---- the count, as the sheets on the board tell it
 module _ (s : List ℕ) where
@@ -35,10 +51,10 @@ module _ (s : List ℕ) where
 
   -- "Records are taken in order, numbered from 0": the number of ballot k's record in round m, and of that round's sheet
   abbrev pub ballotNumber : (m k : ℕ) → ℕ
-  ballotNumber m k = recordNumber (header s .K) m k
+  ballotNumber m k = recordNumber s (header s) m k
 
   abbrev pub sheetNumber : (m : ℕ) → ℕ
-  sheetNumber m = recordNumber (header s .K) m (header s .K)
+  sheetNumber m = recordNumber s (header s) m (header s .K)
 
 module _ (hash : List ℕ → List ℕ) (s : List ℕ) where
   -- ballot k's record in round m breaks no rule; nor does the sheet of round m
@@ -46,11 +62,11 @@ module _ (hash : List ℕ → List ℕ) (s : List ℕ) where
   RecordHolds m k = RecordRules hash s (header s) (outBefore s m) m k
 
   abbrev pub SheetHolds : (m : ℕ) → Type 0
-  SheetHolds m = SheetRules s (header s) m (dueAt s m)
+  SheetHolds m = RoundSheetRules s (header s) m (dueAt s m)
 
   -- a board of so many rounds on which every rule holds, with the order and the winner of its count
   pub record EveryRuleHolds (rounds : ℕ) (order : List ℕ) (winner : ℕ) : Type 0 where
-    pub head : HeaderRules hash s
+    pub head : HeaderRules hash ranked s
     pub records : (m k : ℕ) → m < rounds → k < header s .K → RecordHolds m k
     pub sheets : (m : ℕ) → m < rounds → SheetHolds m
     -- the last round closes the board, and none before it
@@ -59,31 +75,31 @@ module _ (hash : List ℕ → List ℕ) (s : List ℕ) where
     pub closed : closesAt s last ≡ true
     pub not-before : (m : ℕ) → m < last → closesAt s m ≡ false
     -- 12, "after the closing sheet: bytes remain": none do
-    pub ends : length s ≡ roundAt (header s .n) (header s .K) rounds
+    pub ends : length s ≡ roundPlace s rounds
     pub order-is : order ≡ standingAt s last .gone
     pub winner-is : winner ≡ wins (header s .n) (standingAt s last) (counts s (header s) last)
 
   -- every record with a number below this breaks no rule
-  pub record HoldsBefore (place : ℕ) : Type 0 where
-    pub head : 0 < place → HeaderRules hash s
-    pub records : (m k : ℕ) → k < header s .K → ballotNumber s m k < place → RecordHolds m k
-    pub sheets : (m : ℕ) → sheetNumber s m < place → SheetHolds m
+  pub record HoldsBefore (number : ℕ) : Type 0 where
+    pub head : 0 < number → HeaderRules hash ranked s
+    pub records : (m k : ℕ) → k < header s .K → ballotNumber s m k < number → RecordHolds m k
+    pub sheets : (m : ℕ) → sheetNumber s m < number → SheetHolds m
 
   -- and no sheet among them closes the board
-  abbrev pub OpenBefore : (place : ℕ) → Type 0
-  OpenBefore place = (m : ℕ) → sheetNumber s m < place → closesAt s m ≡ false
+  abbrev pub OpenBefore : (number : ℕ) → Type 0
+  OpenBefore number = (m : ℕ) → sheetNumber s m < number → closesAt s m ≡ false
 
   -- "The result of a refusal is its number and the record's number (with 12, the number of records read)":
   -- no record before it breaks a rule, and its own first test that fails, in the table's order, has this refusal (`firstFault`; `first-fails`)
-  pub data FirstBroken (number place : ℕ) : Type 0 where
-    in-header : place ≡ 0 → headerFault hash s ≡ number → 1 ≤ number → FirstBroken number place
-    in-record : (m k : ℕ) → k < header s .K → place ≡ ballotNumber s m k → HoldsBefore place → OpenBefore place →
-        recordFault hash s (header s) (outBefore s m) m k ≡ number → 1 ≤ number → FirstBroken number place
-    in-sheet : (m : ℕ) → place ≡ sheetNumber s m → HoldsBefore place → OpenBefore place →
-        sheetFault s (header s) m (dueAt s m) ≡ number → 1 ≤ number → FirstBroken number place
+  pub data FirstBroken (refusal number : ℕ) : Type 0 where
+    in-header : number ≡ 0 → headerFault hash ranked s ≡ refusal → 1 ≤ refusal → FirstBroken refusal number
+    in-record : (m k : ℕ) → k < header s .K → number ≡ ballotNumber s m k → HoldsBefore number → OpenBefore number →
+        recordFault hash s (header s) (outBefore s m) m k ≡ refusal → 1 ≤ refusal → FirstBroken refusal number
+    in-sheet : (m : ℕ) → number ≡ sheetNumber s m → HoldsBefore number → OpenBefore number →
+        roundSheetFault s (header s) m (dueAt s m) ≡ refusal → 1 ≤ refusal → FirstBroken refusal number
     -- "after the closing sheet: bytes remain"
-    at-end : (m : ℕ) → place ≡ sheetNumber s m + 1 → HoldsBefore place → OpenBefore (sheetNumber s m) → closesAt s m ≡ true →
-        roundAt (header s .n) (header s .K) (suc m) < length s → number ≡ 12 → FirstBroken number place
+    at-end : (m : ℕ) → number ≡ sheetNumber s m + 1 → HoldsBefore number → OpenBefore (sheetNumber s m) → closesAt s m ≡ true →
+        roundPlace s (suc m) < length s → refusal ≡ 12 → FirstBroken refusal number
 
 -- the first of the tests that fails has this refusal
 pub record FirstFails (tests : List Test) (number : ℕ) : Type 0 where
@@ -99,13 +115,13 @@ pub record SecondDemand (hash : List ℕ → List ℕ) : Type 0 where
   pub accepted-iff : (s : List ℕ) (rounds : ℕ) (order : List ℕ) (winner : ℕ) →
       (checkBoard hash s ≡ accepted rounds order winner) ↔ EveryRuleHolds hash s rounds order winner
   -- else the first broken rule is named
-  pub refused-iff : (s : List ℕ) (number place : ℕ) → (checkBoard hash s ≡ refused number place) ↔ FirstBroken hash s number place
+  pub refused-iff : (s : List ℕ) (refusal number : ℕ) → (checkBoard hash s ≡ refused refusal number) ↔ FirstBroken hash s refusal number
   -- of every board one or the other holds
   pub either : (s : List ℕ) →
       ((rounds : ℕ) × (order : List ℕ) × (winner : ℕ) × EveryRuleHolds hash s rounds order winner)
-      ⊎ ((number : ℕ) × (place : ℕ) × FirstBroken hash s number place)
+      ⊎ ((refusal : ℕ) × (number : ℕ) × FirstBroken hash s refusal number)
   -- what the first fault of a list of tests is; there is none just where the record breaks no rule
   pub first-fails : (tests : List Test) (number : ℕ) → 1 ≤ number → (firstFault tests ≡ number) ↔ FirstFails tests number
-  pub header-tests : (s : List ℕ) → (headerFault hash s ≡ 0) ↔ HeaderRules hash s
+  pub header-tests : (model : Model) (s : List ℕ) → (headerFault hash model s ≡ 0) ↔ HeaderRules hash model s
   pub record-tests : (s : List ℕ) (h : Header) (a m k : ℕ) → (recordFault hash s h a m k ≡ 0) ↔ RecordRules hash s h a m k
-  pub sheet-tests : (s : List ℕ) (h : Header) (m out : ℕ) → (sheetFault s h m out ≡ 0) ↔ SheetRules s h m out
+  pub sheet-tests : (s : List ℕ) (h : Header) (m out : ℕ) → (roundSheetFault s h m out ≡ 0) ↔ RoundSheetRules s h m out

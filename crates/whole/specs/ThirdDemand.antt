@@ -5,9 +5,10 @@ use mathlib.Core.Bool.{cond}
 use mathlib.Core.List.{List}
 use lib.ListN.{length}
 use Rattle.numbers.specs.Below.{sumBelow}
-use Rattle.rules.specs.Records.{RT, hasMark, roundAt}
+use Rattle.rules.specs.Records.{RT, hasMark}
 use Rattle.rules.specs.Count.{table, Result, plainCount}
-use Rattle.rules.specs.Check.{accepted, header, place, outField, countField, counts, checkBoard}
+use Rattle.rules.specs.Header.{header}
+use Rattle.rules.specs.Check.{accepted, roundsRead, place, outField, countField, counts, checkBoard}
 use Rattle.rules.specs.Openings.{Opens}
 use Rattle.jobs.specs.Job.{Job, headerOf, rankingOf, plainResult, boardLength}
 use Rattle.jobs.specs.Board.{board}
@@ -15,7 +16,7 @@ use Rattle.jobs.specs.Write.{Valid, boardWritten, writeOutcome}
 
 -- "the number of RT on the board", of its records in so many rounds
 abbrev pub sheetsOn : (s : List ℕ) (rounds : ℕ) → ℕ
-sheetsOn s rounds = sumBelow rounds (λ m. sumBelow (header s .K + 1) (λ k. cond (hasMark s (place (header s) m k) RT) 1 0))
+sheetsOn s rounds = sumBelow rounds (λ m. sumBelow (header s .K + 1) (λ k. cond (hasMark s (place s (header s) m k) RT) 1 0))
 
 -- "Equal to these are the number of RT on the board, the n counts on the m-th RT for each round m, the out fields ahead of the closing sheet
 -- in their order, and the rounds, order and winner in the checker's answer"; "each sheet's counts sum to K"
@@ -27,7 +28,7 @@ pub record IsPlain (s : List ℕ) (rounds : ℕ) (order : List ℕ) (winner : �
   pub same-counts : table rounds (counts s (header s)) ≡ plain .counts
   pub same-outs : table (rounds - 1) (outField s (header s)) ≡ plain .order
   -- the records of the rounds are all that the board holds
-  pub whole : length s ≡ roundAt (header s .n) (header s .K) rounds
+  pub whole : length s ≡ roundsRead s (header s) rounds .place
   pub sums : (m : ℕ) → m < rounds → sumBelow (header s .n) (countField s (header s) m) ≡ header s .K
 
 module _ (hash : List ℕ → List ℕ) where

@@ -11,9 +11,8 @@ use Rattle.numbers.specs.Below.{concatBelow}
 use Rattle.sha256.specs.Message.{sha256}
 use Rattle.group.specs.Elements.{Parameters}
 use Rattle.rules.specs.Answers.{withZeros}
-use Rattle.rules.specs.Records.{roundAt}
 use Rattle.rules.specs.Count.{Result, table}
-use Rattle.jobs.specs.Job.{Job, groupOf, rankingOf, needed, boardLength, plainResult, roundDraws}
+use Rattle.jobs.specs.Job.{Job, groupOf, rankingOf, needed, boardLength, plainResult, roundDraws, roundAt}
 use Rattle.jobs.specs.Board.{headerBytes, boardBytes, board}
 use Rattle.jobs.specs.Write.{boardWritten, writeOutcome, writeOutput, Valid}
 use Rattle.jobs.specs.Replies.{outcomeOf}
@@ -26,20 +25,21 @@ use Rattle.count.proofs.Picks.{padded-order}
 use Rattle.plain.proofs.Sheets.{sheets-are}
 use Rattle.plain.specs.declared.rounds.Measure.{Measure}
 use Rattle.output.specs.Written.{written}
-use Rattle.boards.specs.declared.Size.{Size}
-use Rattle.boards.specs.Parts.{boardJob, Writable, Sheeted, roundBytes}
+use Rattle.boards.specs.Parts.{Writable, Sheeted, roundBytes}
 use Rattle.boards.proofs.Walk.{rounds-are, few-rounds, goes-out, left, struck-below}
 use Rattle.boards.proofs.RoundPlans.{length-rounds, length-header, place-least}
-use Rattle.writer.specs.Steps.{Measured, bytesOf}
+use Rattle.writer.specs.Steps.{Measured}
 use Rattle.writer.proofs.Outcomes.{Answered}
 use Rattle.rules.specs.Count.{isRanking}
 
-abbrev size : Job → Size
-size job = record { n = job .n; k = job .K; counter = job .counter }
+-- a job with the numbers of a group
+abbrev inGroup : Job → Parameters → Job
+inGroup job g =
+    record { n = job .n; K = job .K; p = g .p; q = g .q; g0 = g .g0; counter = job .counter; label = job .label; rankings = job .rankings; draws = job .draws }
 
 -- the bytes that the code writes for a job
 abbrev pub bytesFor : Job → Parameters → (order : List ℕ) (rounds : ℕ) → List ℕ
-bytesFor job g order rounds = bytesOf (size job) g (job .label) (job .rankings) (job .draws) order rounds
+bytesFor job g order rounds = headerBytes sha256 (inGroup job g) g ++ concatBelow rounds (roundBytes sha256 (inGroup job g) g order)
 
 written-at : (w o : List ℕ) (k : ℕ) → length w ≡ k → written w o ≡ w ++ drop k o
 unfolding written
@@ -114,13 +114,13 @@ module _ (job : Job) (v : Valid sha256 job) where
     unfolding resultOf
     order-counted = padded-order (c .count .gone) (w .kept .listed) ∙ ap (λ (r : Result). withZeros (r .order)) (w .counted)
 
-    pub can : Writable (boardJob (size job) g (job .label) (job .rankings) (job .draws)) (c .count .gone .order) rounds
+    pub can : Writable (inGroup job g) (c .count .gone .order) rounds
     unfolding needed
     can =
-        subst (λ (x : Parameters). Writable (boardJob (size job) x (job .label) (job .rankings) (job .draws)) (c .count .gone .order) rounds) (sym e)
+        subst (λ (x : Parameters). Writable (inGroup job x) (c .count .gone .order) rounds) (sym e)
         (able (c .count .gone .order) rounds order-counted rounds-counted (rw (rounds-counted, ← (w .needed)) (w .small)))
 
-    pub sheeted : Sheeted (boardJob (size job) g (job .label) (job .rankings) (job .draws)) (c .count)
+    pub sheeted : Sheeted (inGroup job g) (c .count)
     sheeted = sheets-are (job .n) (table (job .K) (rankingOf job)) c (w .counted)
 
     pub room : (54 ≤ m .length) × (roundAt (job .n) (job .K) rounds ≤ m .length)

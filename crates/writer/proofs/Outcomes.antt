@@ -11,11 +11,11 @@ use Rattle.numbers.specs.Below.{allBelow}
 use Rattle.numbers.proofs.Tests.{by-cases}
 use Rattle.sha256.specs.Message.{sha256}
 use Rattle.group.specs.Elements.{Parameters}
-use Rattle.rules.specs.Group.{sizes, orders, generators}
-use Rattle.rules.specs.Records.{roundAt}
+use Rattle.rules.specs.Group.{orders, generators}
+use Rattle.rules.specs.Header.{ranked, sizes}
 use Rattle.rules.specs.Count.{Result, isRanking}
-use Rattle.rules.specs.Check.{firstFault}
-use Rattle.jobs.specs.Job.{Job, groupOf, rankingOf, roundDraws, needed, boardLength, plainResult}
+use Rattle.rules.specs.Tests.{firstFault}
+use Rattle.jobs.specs.Job.{Job, groupOf, rankingOf, roundDraws, needed, boardLength, plainResult, roundAt}
 use Rattle.jobs.specs.Write.{labelGood, rankingsGood, drawsGood, jobFault, firstBad, badRanking, jobRefused, writeOutcome, writeOutput, Passed, Valid}
 use Rattle.jobs.specs.Replies.{outcomeOf, orderWritten}
 use Rattle.jobs.specs.declared.Written.{Written}
@@ -80,12 +80,12 @@ module _ (job : Job) where
       and-false true = refl
       and-false false = refl
 
-  pub ranked : length (job .rankings) ≡ job .K * job .n → firstBad job (job .K) ≡ 0 → rankingsGood job ≡ true
-  ranked l b = rw (eq-eqb (length (job .rankings)) (job .K * job .n) l) (all-ranked (job .K) b)
+  pub well-ranked : length (job .rankings) ≡ job .K * job .n → firstBad job (job .K) ≡ 0 → rankingsGood job ≡ true
+  well-ranked l b = rw (eq-eqb (length (job .rankings)) (job .K * job .n) l) (all-ranked (job .K) b)
 
   pub measurable : Passed sha256 job → (2 ≤ job .n) × (job .n ≤ 8) × (job .K ≤ 1000) × (job .K * job .n ≤ length (job .rankings))
   measurable t =
-      let b = sizes-bounds (job .n) (job .K) (t .sized) in
+      let b = sizes-bounds ranked (job .n) (job .K) (t .sized) in
       let long : length (job .rankings) ≡ job .K * job .n = eqb-true _ _ (and-eq-true-iff (eqb (length (job .rankings)) (job .K * job .n)) _ .0 (t .ranked) .0) in
       (b .0, b .1, b .3, omega arith)
 
@@ -109,11 +109,11 @@ module _ (job : Job) (out : List ℕ) where
   unfolding badRanking
   which-bad h = rw (eq-eqb (length (job .rankings)) (job .K * job .n) h)
 
-  pub stops-sizes : sizes (job .n) (job .K) ≡ false → Stops job out 3 0
+  pub stops-sizes : sizes ranked (job .n) (job .K) ≡ false → Stops job out 3 0
   unfolding jobFault firstFault
   stops-sizes a = stops 2 0 (rw a) (which-none 3 (λ e. omega arith))
 
-  module _ (a : sizes (job .n) (job .K) ≡ true) where
+  module _ (a : sizes ranked (job .n) (job .K) ≡ true) where
     pub stops-orders : orders (job .n) (job .K) (job .p) (job .q) ≡ false → Stops job out 4 0
     unfolding jobFault firstFault
     stops-orders b = stops 3 0 (rw (a, b)) (which-none 4 (λ e. omega arith))

@@ -6,7 +6,7 @@ use mathlib.Core.List.{List, _++_}
 use lib.ListN.{length}
 use Rattle.numbers.specs.Below.{concatBelow}
 use Rattle.sha256.specs.Message.{sha256}
-use Rattle.group.specs.Elements.{Parameters, parametersOf}
+use Rattle.group.specs.Elements.{parametersOf}
 use Rattle.rules.specs.Answers.{refusalNumber}
 use Rattle.jobs.specs.Job.{Job, groupOf, plainResult, needed, boardLength}
 use Rattle.jobs.specs.Board.{headerBytes}
@@ -15,8 +15,8 @@ use Rattle.output.specs.Written.{written}
 use Rattle.count.specs.State.{resultOf, Kept}
 use Rattle.count.specs.declared.Ended.{Ended}
 use Rattle.plain.specs.declared.rounds.Measure.{Measure}
-use Rattle.boards.specs.Parts.{boardJob, roundBytes}
-use Rattle.boards.specs.declared.Size.{Size}
+use Rattle.boards.specs.Parts.{boardJob, headGroup, roundBytes}
+use Rattle.boards.specs.declared.Head.{Head}
 use Rattle.writer.specs.declared.validity.Tested.{Tested}
 use Rattle.writer.specs.declared.validity.Tested.the-variants.{Sound, Refused}
 
@@ -39,9 +39,10 @@ pub record Measured (job : Job) (e : Ended) (m : Measure) : Type 0 where
   pub small : m .needed ≤ 10000000
 
 -- the bytes of a board of so many rounds, in whose rounds processes go out in an order
-abbrev pub bytesOf : Size → Parameters → (label rankings draws order : List ℕ) (rounds : ℕ) → List ℕ
-bytesOf size g label rankings draws order rounds =
-    headerBytes sha256 (boardJob size g label rankings draws) g ++ concatBelow rounds (roundBytes sha256 (boardJob size g label rankings draws) g order)
+abbrev pub bytesOf : Head → (label rankings draws order : List ℕ) (rounds : ℕ) → List ℕ
+bytesOf head label rankings draws order rounds =
+    let job = boardJob head label rankings draws in
+    headerBytes sha256 job (headGroup head) ++ concatBelow rounds (roundBytes sha256 job (headGroup head) order)
 
 -- the output has room for so many bytes, and they are written; or it has not, and stays as it is
 abbrev pub Put : (size : ℕ) (bytes before after : List ℕ) → Bool → Type 0

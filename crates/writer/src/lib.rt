@@ -1,6 +1,6 @@
 // The writer: a board made from rankings and draws.
 use crate::validity::Tested;
-use boards::Size;
+use boards::Head;
 use boards::rounds;
 use count::Count;
 use count::Ended;
@@ -13,9 +13,8 @@ ghost use mathlib.Core.Path.{_≡_};
 ghost use Prim.Native.Nat.{_+_, _≤_};
 ghost use lib.ListN.{length, replicate};
 ghost use Rattle.sha256.specs.Message.{sha256};
-ghost use Rattle.group.specs.Elements.{parametersOf};
 ghost use Rattle.rules.specs.Answers.{refusalNumber};
-ghost use Rattle.rules.specs.Records.{headerLength, roundAt};
+ghost use Rattle.rules.specs.Records.{headerLength};
 ghost use Rattle.jobs.specs.Write.{boardWritten, jobRefused, writeOutcome, writeOutput};
 ghost use Rattle.jobs.specs.Replies.{outcomeOf, orderWritten};
 ghost use Rattle.statements.specs.Values.{Ready};
@@ -23,6 +22,7 @@ ghost use Rattle.count.specs.State.{listOf, Kept};
 ghost use Rattle.boards.specs.Parts.{boardJob, Writable, Sheeted};
 ghost use Rattle.writer.specs.Jobs.{jobOf};
 ghost use Rattle.writer.specs.Steps.{bytesOf, Put};
+ghost use Rattle.jobs.specs.Job.{roundAt};
 
 mod validity;
 
@@ -65,21 +65,20 @@ fn board_written(ended: Ended, length: usize) -> Written
 fn put_board(
     out: &mut [u8],
     label: &[u8],
-    g: Setup,
-    size: Size,
+    head: Head,
     rankings: &[u8],
     draws: &[u32],
     count: Count,
     room: usize,
 ) -> bool
-    requires { ⌜ Ready g × Writable (boardJob size (parametersOf (g .group)) (now label) (now rankings) (now draws)) (count .gone .order) (count .gone .outs + 1) × Sheeted (boardJob size (parametersOf (g .group)) (now label) (now rankings) (now draws)) count × (length (now label) ≡ 32) ⌝ }
-    requires { ⌜ (headerLength ≤ room) × (roundAt (size .n) (size .k) (count .gone .outs + 1) ≤ room) ⌝ }
-    ensures { λ r. ⌜ Put room (bytesOf size (parametersOf (g .group)) (now (label .entry)) (now (rankings .entry)) (now (draws .entry)) (count .gone .order) (count .gone .outs + 1)) (now (out .entry)) (now (out .exit)) r ⌝ }
+    requires { ⌜ Ready (head .setup) × Writable (boardJob head (now label) (now rankings) (now draws)) (count .gone .order) (count .gone .outs + 1) × Sheeted (boardJob head (now label) (now rankings) (now draws)) count × (length (now label) ≡ 32) ⌝ }
+    requires { ⌜ (headerLength ≤ room) × (roundAt (head .n) (head .k) (count .gone .outs + 1) ≤ room) ⌝ }
+    ensures { λ r. ⌜ Put room (bytesOf head (now (label .entry)) (now (rankings .entry)) (now (draws .entry)) (count .gone .order) (count .gone .outs + 1)) (now (out .entry)) (now (out .exit)) r ⌝ }
 {
     if out.len() < room {
         return false;
     }
-    rounds::write_board(out, label, g, size, rankings, draws, count);
+    rounds::write_board(out, label, head, rankings, draws, count);
     true
 }
 
@@ -100,13 +99,14 @@ pub fn write(job: Job, label: &[u8], rankings: &[u8], draws: &[u32], out: &mut [
     if !validity::draws_good(draws, m.needed, job.q) {
         return refused(Refusal::Draws, 0);
     }
-    let size = Size {
+    let setup = Setup::new(g);
+    let head = Head {
         n: job.n,
         k: job.k,
         counter: job.counter,
+        setup,
     };
-    let setup = Setup::new(g);
-    if !put_board(out, label, setup, size, rankings, draws, count, m.length) {
+    if !put_board(out, label, head, rankings, draws, count, m.length) {
         return refused(Refusal::Output, 0);
     }
     board_written(ended, m.length)

@@ -55,7 +55,7 @@ pub fn up_to_rankings(job: Job, label: &[u8], rankings: &[u8]) -> Tested
 {
     let n = job.n;
     let k = job.k;
-    if !parameters::sizes_good(n, k) {
+    if !parameters::sizes_good(layout::ranked(), n, k) {
         return Tested::Refused(Refusal::Sizes, 0);
     }
     if !parameters::orders_good(n, k, job.p, job.q) {

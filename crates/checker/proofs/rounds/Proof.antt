@@ -1,136 +1,126 @@
 use denote.Ref.{now}
-use Prim.Native.Nat.{ℕ, _+_, _*_, _-_, _≤_}
+use Prim.Native.Nat.{ℕ, _+_, _-_}
 use mathlib.Core.Path.{_≡_, sym, _∙_, ap}
 use native.Mathlib.Nat.{sub-zero}
 use native.Mathlib.Omega.{arith}
-use lib.ListN.{length}
 use borrow.Author.Needs.{needs}
 use Rattle.sha256.specs.Message.{sha256}
-use Rattle.rules.specs.Records.{sheetLength}
 use Rattle.rules.specs.Count.{start}
-use Rattle.rules.specs.Check.{accepted, checkFrom, counts}
+use Rattle.rules.specs.Check.{Verdict, accepted, checkFrom, roundVerdict}
 use Rattle.rules.specs.Answers.{orderOf, withZeros}
 use Rattle.count.specs.State.{standingOf, Kept}
 use Rattle.count.specs.declared.Gone.{Gone}
 use Rattle.count.proofs.Picks.{sheets-many, same-gone}
 use Rattle.records.specs.Heads.{headOf}
-use Rattle.checker.specs.declared.round.RoundOutcome.the-variants.{Open, Closed}
-use Rattle.checker.specs.Offsets.{Placed}
-use Rattle.checker.specs.Outcomes.{Rounded}
-use Rattle.checker.proofs.RoundPlaces.{sheet-at, placed-first, placed-next}
+use Rattle.round.specs.declared.RoundOutcome.{RoundOutcome}
+use Rattle.round.specs.declared.RoundOutcome.the-variants.{Open, Closed}
+use Rattle.round.specs.Rounds.{Begins}
+use Rattle.round.specs.Outcomes.{RoundComes}
+use Rattle.round.proofs.Beginnings.{begins-first, begins-next}
 use Rattle.checker.proofs.Onward.{one-leaves, ends, goes-on}
 use Rattle.checker.proofs.rounds.Statement.{statement}
 use Rattle.checker.proofs.rounds.Tie as tie
 
 abbrev Inv-loop : tie.InvT-loop
-Inv-loop board at head n k count₀ stage₀ count offsets =
-    Placed board head offsets × (count .gone .outs ≡ offsets .m) × Kept count
-    × (checkFrom sha256 board (headOf board head) n start 0 0 ≡ checkFrom sha256 board (headOf board head) (n - offsets .m) (standingOf n count)
-    (offsets .m) (offsets .a))
+Inv-loop board at head n count₀ place₀ round₀ count place round =
+    Begins board head place round × (count .gone .outs ≡ round .m) × Kept count
+    × (checkFrom sha256 board (headOf board head) n start 0 0 ≡ checkFrom sha256 board (headOf board head) (n - round .m) (standingOf n count) (round .m) (round .a))
 
 abbrev μ-loop : tie.MeasureT-loop
-μ-loop board at head n k count₀ stage₀ count offsets = n - offsets .m
+μ-loop board at head n count₀ place₀ round₀ count place round = n - round .m
 
-abbrev start-from-turn : tie.After-read-round Inv-loop μ-loop → tie.Start Inv-loop μ-loop
-start-from-turn c = c .before .before .before .before .before
+-- the entry, from where a round was read
+abbrev entry : tie.After-read-round Inv-loop μ-loop → tie.Start Inv-loop μ-loop
+entry c = c .before .before .before .before .before
 
-abbrev start-from-accepted : tie.After-accepted Inv-loop μ-loop → tie.Start Inv-loop μ-loop
-start-from-accepted c = start-from-turn (c .before .before .before .before .before)
+-- what the round read comes to
+abbrev Comes : tie.After-read-round Inv-loop μ-loop → RoundOutcome → Type 0
+Comes c o =
+    let a = (entry c) .args in
+    let l = c .before .loop in
+    RoundComes (now (a .board)) (a .h) (l .count) (l .round .m) (l .round .a) o (c .read-round .result .count) (c .read-round .result .next) (c .read-round .result .number)
 
-abbrev start-from-next2 : tie.After-next2 Inv-loop μ-loop → tie.Start Inv-loop μ-loop
-start-from-next2 c = start-from-turn (c .before .before .before .before .before)
+-- the verdict on the whole board, where the round has a verdict of its own
+ended : (c : tie.After-read-round Inv-loop μ-loop) (W : Verdict) →
+    let a = (entry c) .args in
+    let l = c .before .loop in
+    let H = headOf (now (a .board)) (a .h) in
+    ((after : Verdict) → roundVerdict sha256 (now (a .board)) H (standingOf (a .h .n) (l .count)) (l .round .m) (l .round .a) after ≡ W) →
+    checkFrom sha256 (now (a .board)) H (a .h .n) start 0 0 ≡ W
+ended c W =
+    let a = (entry c) .args in
+    let l = c .before .loop in
+    let H = headOf (now (a .board)) (a .h) in
+    ends (now (a .board)) H (checkFrom sha256 (now (a .board)) H (a .h .n) start 0 0) (standingOf (a .h .n) (l .count)) (l .round .m) (l .round .a) (omega (arith, l .inv .0 .early)) (l .inv .3) W
 
 loop-holds : tie.Need-loop-holds Inv-loop μ-loop
 loop-holds c =
-    let a = c .before .before .before .args in
-    rw (c .first .ensures, c .before .before .before .pre .1) (
-      placed-first (now (a .board)) (a .h) (c .before .before .before .pre .0),
+    let s = c .before .before .before in
+    rw (c .first .ensures, s .pre .1) (
+      begins-first (now (s .args .board)) (s .args .h) (s .pre .0),
       c .before .new .ensures .0,
       c .before .new .ensures .1,
-      rw (sub-zero, c .before .new .ensures .2 (a .h .n)),
+      rw (sub-zero, c .before .new .ensures .2 (s .args .h .n)),
     )
 
 returns : tie.Need-returns Inv-loop μ-loop
-unfolding Rounded
+unfolding RoundComes
 returns c =
-    let a = (start-from-turn (c .before .before .before .before)) .args in
-    let l = c .before .before .before .before .before .loop in
-    let t = rw (c .before .before .round .given .1) at (c .before .before .before .before .read-round .ensures) in
-    let x = ends (now (a .board)) (headOf (now (a .board)) (a .h))
-    (checkFrom sha256 (now (a .board)) (headOf (now (a .board)) (a .h)) (a .h .n) start 0 0) (standingOf (a .h .n) (l .count)) (l .offsets .m)
-    (l .offsets .a) (omega (arith, l .inv .0 .round)) (l .inv .3) _ (t .0) in
+    let r = c .before .before .before .before in
+    let t = rw (c .before .before .outcome .given .1) at (r .read-round .ensures) in
+    let x = ended r _ (t .0) in
     (c .refused .ensures .0 ∙ sym x, c .refused .ensures .1 ∙ sym (ap orderOf x))
 
 -- the round closes the board
-closes : (c : tie.After-known-told2 Inv-loop μ-loop) →
-    let a = (start-from-turn (c .before .before .before)) .args in
-    let l = c .before .before .before .before .loop in
-    Rounded (now (a .board)) (a .h) (l .count) (l .offsets .m) (l .offsets .a) (Closed (c .before .round2 .given .0 .0)) (c .before .before .before .read-round .result .count)
-closes c = rw (c .before .round2 .given .1) at (c .before .before .before .read-round .ensures)
+closes : (c : tie.After-known-told2 Inv-loop μ-loop) → Comes (c .before .before .before) (Closed (c .before .outcome2 .given .0 .0))
+closes c = rw (c .before .outcome2 .given .1) at (c .before .before .before .read-round .ensures)
+
+accepted-requires : tie.Need-accepted-requires Inv-loop μ-loop
+unfolding RoundComes
+accepted-requires c κs = closes (c .before) .2
 
 returns-2 : tie.Need-returns-2 Inv-loop μ-loop
-unfolding Rounded
+unfolding RoundComes
 returns-2 c =
-    let a = (start-from-accepted c) .args in
-    let l = c .before .before .before .before .before .before .loop in
-    let t = closes (c .before .before) in
-    let x = ends (now (a .board)) (headOf (now (a .board)) (a .h))
-    (checkFrom sha256 (now (a .board)) (headOf (now (a .board)) (a .h)) (a .h .n) start 0 0) (standingOf (a .h .n) (l .count)) (l .offsets .m)
-    (l .offsets .a) (omega (arith, l .inv .0 .round)) (l .inv .3) _ (t .0) in
+    let o = c .before .before in
+    let r = o .before .before .before in
+    let a = (entry r) .args in
+    let l = r .before .loop in
+    let t = closes o in
+    let x = ended r _ (t .0) in
     let g = same-gone (a .h .n) _ (l .count) (t .1) in (
-      c .accepted .ensures .0
-          ∙ (λ i. accepted ((ap (λ (y : Gone). y .outs) (t .1) ∙ l .inv .1) i + 1) (g i) (c .before .before .before .round2 .given .0 .0)) ∙ sym x,
+      c .accepted .ensures .0 ∙ (λ i. accepted ((ap (λ (y : Gone). y .outs) (t .1) ∙ l .inv .1) i + 1) (g i) (o .before .outcome2 .given .0 .0)) ∙ sym x,
       c .accepted .ensures .1 ∙ ap withZeros g ∙ sym (ap orderOf x),
     )
 
-accepted-requires : tie.Need-accepted-requires Inv-loop μ-loop
-unfolding Rounded
-accepted-requires c κs = closes (c .before) .2
-
 -- the round stays open
-opens : (c : tie.After-known-told3 Inv-loop μ-loop) →
-    let a = (start-from-turn (c .before .before .before)) .args in
-    let l = c .before .before .before .before .loop in
-    Rounded (now (a .board)) (a .h) (l .count) (l .offsets .m) (l .offsets .a) (Open (c .before .round3 .given .0 .0)) (c .before .before .before .read-round .result .count)
-opens c = rw (c .before .round3 .given .1) at (c .before .before .before .read-round .ensures)
-
--- and its sheet is on the board
-room : (c : tie.After-known-told3 Inv-loop μ-loop) →
-    let a = (start-from-turn (c .before .before .before)) .args in
-    let l = c .before .before .before .before .loop in l .offsets .at + a .h .k * l .offsets .size + sheetLength (a .h .n) ≤ length (now (a .board))
-unfolding Rounded
-room c =
-    let a = (start-from-turn (c .before .before .before)) .args in
-    let l = c .before .before .before .before .loop in
-    rw (sheet-at (now (a .board)) (a .h) (l .offsets) (l .inv .0)) (opens c .2)
-
-next-requires : tie.Need-next-requires Inv-loop μ-loop
-next-requires c κs =
-    let l = c .before .before .before .before .before .loop in
-    ((start-from-turn (c .before .before .before .before)) .pre .0 .high, omega (arith, l .inv .0 .round), omega (arith, room (c .before), (start-from-turn (c .before .before .before .before)) .good))
+opens : (c : tie.After-known-told3 Inv-loop μ-loop) → Comes (c .before .before .before) (Open (c .before .outcome3 .given .0 .0))
+opens c = rw (c .before .outcome3 .given .1) at (c .before .before .before .read-round .ensures)
 
 loop-again : tie.Need-loop-again Inv-loop μ-loop
-unfolding Rounded
+unfolding RoundComes
 loop-again c =
-    let a = (start-from-next2 c) .args in
-    let l = c .before .before .before .before .before .before .loop in
-    let o = opens (c .before .before) in
+    let w = c .before .before in
+    let r = w .before .before .before in
+    let a = (entry r) .args in
+    let l = r .before .loop in
+    let o = opens w in
+    let H = headOf (now (a .board)) (a .h) in
     rw (c .next2 .ensures) (
-      placed-next (now (a .board)) (a .h) (l .offsets) (l .inv .0) (standingOf (a .h .n) (l .count))
-          (counts (now (a .board)) (headOf (now (a .board)) (a .h)) (l .offsets .m))
-          (sheets-many (a .h .n) (l .count) (l .inv .2) ∙ l .inv .1) (o .1) (o .2) (c .before .before .before .round3 .given .0 .0)
-          (rw (o .3) (one-leaves (a .h .n) (l .count) _ (l .inv .2) (omega (arith, l .inv .1, l .inv .0 .round)))) (o .4),
-      o .5 ∙ ap (λ (x : ℕ). x + 1) (l .inv .1),
-      o .6,
-      goes-on (now (a .board)) (headOf (now (a .board)) (a .h))
-          (checkFrom sha256 (now (a .board)) (headOf (now (a .board)) (a .h)) (a .h .n) start 0 0) (standingOf (a .h .n) (l .count)) (l .offsets .m)
-          (l .offsets .a) (omega (arith, l .inv .0 .round)) (l .inv .3) (o .0) _ _ (o .7) (o .3),
+      begins-next (now (a .board)) (a .h) (l .place) (l .round) (l .inv .0) (standingOf (a .h .n) (l .count)) _ (sheets-many (a .h .n) (l .count) (l .inv .2) ∙ l .inv .1)
+          (o .1) _ _ (o .2) (o .3) (o .4) _
+          (rw (o .5) (one-leaves (a .h .n) (l .count) _ (l .inv .2) (omega (arith, l .inv .1, l .inv .0 .early)))) (o .6),
+      o .7 ∙ ap (λ (x : ℕ). x + 1) (l .inv .1),
+      o .8,
+      goes-on (now (a .board)) H (checkFrom sha256 (now (a .board)) H (a .h .n) start 0 0) (standingOf (a .h .n) (l .count)) (l .round .m)
+          (l .round .a) (omega (arith, l .inv .0 .early)) (l .inv .3) (o .0) _ _ (o .9) (o .5),
     )
 
 pub rounds-spec : {M : Type 1} → statement M
 rounds-spec =
     tie.close
-    (tie.spec Inv-loop μ-loop (λ c κs. search needs) (λ c κs. c .before .before .pre .0 .high) loop-holds
+    (tie.spec Inv-loop μ-loop (λ c κs. search needs) (λ c κs. search needs) loop-holds
     (λ c κs. (c .before .before .before .before .pre .0, c .loop .inv .0, c .loop .inv .2, c .loop .inv .1)) (λ c. search needs)
-    (λ c κs. search needs) returns (λ c. search needs) accepted-requires returns-2 (λ c. search needs) next-requires
-    (λ c. rw (c .next2 .ensures) (omega (arith, c .before .before .before .before .before .before .loop .inv .0 .round))) loop-again)
+    (λ c κs. search needs) returns (λ c. search needs) accepted-requires returns-2 (λ c. search needs)
+    (λ c κs. let s = entry (c .before .before .before .before) in omega (arith, c .before .before .before .before .before .loop .inv .0 .early, s .pre .0 .high))
+    (λ c. rw (c .next2 .ensures) (omega (arith, c .before .before .before .before .before .before .loop .inv .0 .early))) loop-again)

@@ -4,27 +4,29 @@ use borrow.Author.Needs.{needs}
 use Rattle.rules.specs.Answers.{orderOf}
 use Rattle.records.specs.declared.header.HeaderRead.the-variants.{Board}
 use Rattle.records.specs.Heads.{HeaderReads}
-use Rattle.checker.proofs.Onward.{board-is, refused-is}
+use Rattle.checker.proofs.Onward.{known-ranked, board-is, refused-is}
 use Rattle.checker.proofs.verdict.Statement.{statement}
 use Rattle.checker.proofs.verdict.Tie as tie
 
-told : (c : tie.After-known-told) → HeaderReads (now (c .before .before .before .before .args .board)) (Board (c .before .read .given .0 .0))
-told c = rw (c .before .read .given .1) at (c .before .before .before .before .pre .0)
+told : (c : tie.After-known-told) → let a = c .before .before .before .before .args in HeaderReads (a .model) (now (a .board)) (Board (c .before .read .given .0 .0))
+told c = rw (c .before .read .given .1) at (c .before .before .before .before .pre .1)
 
 rounds-requires : tie.Need-rounds-requires
 unfolding HeaderReads
-rounds-requires c κs = (told c .2, c .before .before .before .before .pre .1)
+rounds-requires c κs =
+    let s = c .before .before .before .before in
+    (known-ranked (s .args .model) (now (s .args .board)) _ (s .pre .0) (told c .2), s .pre .2)
 
 returns : tie.Need-returns
 returns c =
-    let e = board-is (now (c .before .before .before .before .before .args .board)) (c .before .before .read .given .0 .0)
-    (told (c .before)) in
+    let a = c .before .before .before .before .before .args in
+    let e = board-is (a .model) (now (a .board)) _ (told (c .before)) in
     (c .rounds .ensures .0 ∙ e, c .rounds .ensures .1 ∙ ap orderOf e)
 
 returns-2 : tie.Need-returns-2
 returns-2 c =
-    let e = refused-is (now (c .before .before .before .before .before .args .board)) (c .before .before .read2 .given .0 .0)
-    (rw (c .before .before .read2 .given .1) at (c .before .before .before .before .before .pre .0)) in
+    let s = c .before .before .before .before .before in
+    let e = refused-is (s .args .model) (now (s .args .board)) _ (rw (c .before .before .read2 .given .1) at (s .pre .1)) in
     (c .refused .ensures .0 ∙ e, c .refused .ensures .1 ∙ ap orderOf e)
 
 pub verdict-spec : {M : Type 1} → statement M

@@ -12,7 +12,7 @@ use Rattle.proving.proofs.make.Statement.{statement}
 use Rattle.proving.proofs.make.Tie as tie
 
 abbrev start : tie.After-slice-known2 → tie.Start
-start c = c .before .before .before .before .before .before .before .before .before
+start c = c .before .before .before .before .before .before .before .before .before .before
 
 -- where every branch is written
 abbrev held : tie.After-branch-draws → tie.After-slice-known2
@@ -20,8 +20,8 @@ held c = c .before .before .before .before .before .before .before
 
 -- the known branch's end is within the proof
 known-within : (c : tie.After-branch-draws) →
-    let f = start (held c) .args in (f .plan .known + 1) * (4 + 12 * f .plan .statements) ≤ length (now (f .out))
-known-within c = let s = start (held c) in omega (arith, in-proof (s .args .plan) (s .args .plan .known) (s .pre .0 .1 .drawn .known), s .pre .1)
+    let f = start (held c) .args in (f .maker .plan .known + 1) * (4 + 12 * f .maker .plan .statements) ≤ length (now (f .out))
+known-within c = let s = start (held c) in omega (arith, in-proof (s .args .maker .plan) (s .args .maker .plan .known) (s .pre .0 .1 .drawn .known), s .pre .1)
 
 branch-draws-requires : tie.Need-branch-draws-requires
 branch-draws-requires c κs =
@@ -32,22 +32,22 @@ answer-requires c κs =
     let s = start (held (c .before)) in
     let d = s .pre .0 .1 .drawn in (
       (d .positive, s .pre .1 .1, simp (length-take, length-drop) (omega (arith, known-within (c .before), held (c .before) .before .before .commit .kept))),
-      rw (c .before .branch-draws .ensures) (true-fits _ (s .args .plan) (now (s .args .draws)) d (s .args .plan .known) (d .known) refl),
+      rw (c .before .branch-draws .ensures) (true-fits _ (s .args .maker .plan) (now (s .args .draws)) d (s .args .maker .plan .known) (d .known) refl),
     )
 
 returns : tie.Need-returns
-returns c =
+returns c m fed =
     let w = c .before .before .before .before in
     let s = start (held w) in
     let f = s .args in
     let g = parametersOf (f .g .group) in
-    let cl = claimOf (now (f .page)) g (f .plan .n) (f .plan .claim) in
+    let cl = claimOf (now (f .page)) g (f .maker .plan .claim) in
     let all = held w .before .before .commit .ensures in
-    let digest = w .before .before .before .before .before .finish .ensures _ (all .fed) in
+    let digest = w .before .before .before .before .before .finish .ensures _ (all .fed m fed) in
     let sum = w .before .before .before .before .before .before .false-complements .ensures .0 in
-    let e = challenge-is (now (f .label)) g cl (f .plan) (f .witness) (now (f .draws)) _ _ _ _ digest
+    let e = challenge-is m g cl (f .maker) (now (f .draws)) _ _ _ _ digest
     (w .before .before .before .challenge .ensures) sum (w .before .reduce-exp .ensures) in
-    joined (now (f .label)) g cl (f .plan) (f .witness) (now (f .draws)) (s .pre .0 .1 .drawn .known) (now (f .out)) _ _ _ _ _ refl e
+    joined m g cl (f .maker) (now (f .draws)) (s .pre .0 .1 .drawn .known) (now (f .out)) _ _ _ _ _ refl e
     (w .branch-draws .ensures) (all .wrote) (c .before .before .answer .ensures)
 
 pub make-spec : {M : Type 1} → statement M

@@ -1,31 +1,36 @@
--- The checker takes the record of a ballot that a job writes.
-use Prim.Native.Nat.{ℕ, _+_, _*_, _%_, _≤_, _<_}
+-- The record of a ballot that a job writes keeps its rules, wherever it stands.
+use Prim.Native.Nat.{ℕ, _+_, _*_, _%_, _<_}
 use native.Mathlib.Nat.{mod-lt}
 use native.Mathlib.Omega.{arith}
 use mathlib.Core.Path.{_≡_, refl}
 use mathlib.Core.Bool.{true}
 use mathlib.Core.List.{List, [], _∷_, _++_}
-use lib.ListN.{length, getD, length-append}
-use borrow.Author.Tests.{le-leb, eq-eqb}
+use lib.ListN.{length, length-append}
+use borrow.Author.Tests.{eq-eqb}
 use Rattle.numbers.specs.Below.{concatBelow}
-use Rattle.numbers.proofs.Tests.{and-true, all-true}
-use Rattle.rules.specs.Bytes.{number2, bytes2, Stands}
+use Rattle.numbers.proofs.Tests.{and-true}
 use Rattle.group.specs.Elements.{Parameters}
 use Rattle.group.specs.Arithmetic.{powMod}
+use Rattle.rules.specs.Bytes.{bytes2, Stands}
+use Rattle.rules.specs.Records.{hasMark, recordLength}
 use Rattle.rules.specs.Claims.{Matrix, matrixAt}
-use Rattle.rules.specs.Records.{recordLength, recordAt}
-use Rattle.rules.specs.Check.{firstFault, pairsGood, entryProof, rowProof, columnProof, ballotFields, ballotProofs, recordFault}
-use Rattle.jobs.specs.Job.{Job, groupOf, headerOf, plainResult, rowsOf, drawsAt}
-use Rattle.jobs.specs.Board.{jobMatrix, jobBallot}
-use Rattle.jobs.specs.Prover.{proofBytes, Prover}
+use Rattle.rules.specs.Ballot.{entryProof, rowProof, columnProof}
 use Rattle.rules.proofs.Elements.{Good, root-mul, root-mod, root-element, root-g0, root-g1}
-use Rattle.whole.proofs.Complete.Honest.{honest-fields, honest-holds}
-use Rattle.jobs.proofs.FineJob.{Fine, good-group}
-use Rattle.whole.proofs.Complete.Written.{entry-honest, row-honest, column-honest}
-use Rattle.jobs.proofs.Matrices.{SameMatrix, pairs-stand, pairs-good, entry-same, row-same, column-same}
 use Rattle.rules.proofs.Places.{stands-left, stands-right, stands-moved, stands-block, byte-stands, half-stands}
+use Rattle.jobs.specs.Job.{Job, groupOf, headerOf, plainResult, rowsOf, drawsAt}
+use Rattle.jobs.specs.Board.{jobMatrix, jobBallot, recordBytes}
+use Rattle.jobs.specs.Prover.{proofBytes, Prover}
 use Rattle.jobs.specs.Records.{matrixOf, pairBytes, entryProver, rowProver, columnProver, ballotBytes, ballotProofBytes}
-use Rattle.jobs.proofs.Lengths.{length-pairs, length-proof, length-proofs, length-entries, length-rows, length-ballot}
+use Rattle.jobs.proofs.FineJob.{Fine, good-group}
+use Rattle.jobs.proofs.Matrices.{SameMatrix, pairs-stand, pairs-good, entry-same, row-same, column-same}
+use Rattle.jobs.proofs.Lengths.{length-pairs, length-proof, length-proofs, length-entries, length-rows, length-record}
+use Rattle.whole.specs.Rules.{PairRules, BallotRules}
+use Rattle.whole.proofs.Rules.{pair-rules}
+use Rattle.whole.proofs.Complete.Honest.{honest-fields, honest-holds}
+use Rattle.whole.proofs.Complete.Written.{entry-honest, row-honest, column-honest}
+
+pub mark-stands : {s : List ℕ} {at a b : ℕ} {x : List ℕ} → Stands s at (a ∷ b ∷ x) → hasMark s at (a ∷ b ∷ []) ≡ true
+mark-stands h = and-true (eq-eqb _ _ (byte-stands h)) (eq-eqb _ _ (h .same 1 (omega arith)))
 
 -- ---- a written matrix: small numbers, and elements
 module _ (hash : List ℕ → List ℕ) (job : Job) (f : Fine hash job) (gone : List ℕ) (m k : ℕ) where
@@ -39,13 +44,13 @@ module _ (hash : List ℕ → List ℕ) (job : Job) (f : Fine hash job) (gone : 
       let below : (x : ℕ) → x % job .p < 4294967296 = λ x. omega (arith, mod-lt x {m = job .p} (omega (arith, good .large)), good .small) in
       pairs-stand s at (job .n) rows _ (λ i j. below _) (λ i j. below _) h
 
-  pub written-good : (s : List ℕ) (rows : ℕ) (M : Matrix) → SameMatrix rows (job .n) M (jobMatrix job (groupOf hash job) gone m k) →
-      pairsGood s (headerOf hash job) rows M ≡ true
+  pub written-good : (rows : ℕ) (M : Matrix) → SameMatrix rows (job .n) M (jobMatrix job (groupOf hash job) gone m k) → PairRules (groupOf hash job) rows (job .n) M
   unfolding matrixOf powMod
-  written-good s rows M e =
-      pairs-good hash s (headerOf hash job) rows M _ e
+  written-good rows M e =
+      pair-rules (headerOf hash job) rows M .0
+      (pairs-good (headerOf hash job) rows M _ e
       (λ i j. root-element (groupOf hash job) good _ (root-mul (groupOf hash job) good _ _ (root-mod (groupOf hash job) good _ (root-g0 (groupOf hash job) good _)) (root-mod (groupOf hash job) good _ (root-g1 (groupOf hash job) good _))))
-      (λ i j. root-element (groupOf hash job) good _ (root-g1 (groupOf hash job) good _))
+      (λ i j. root-element (groupOf hash job) good _ (root-g1 (groupOf hash job) good _)))
 
 -- ---- the lengths of a ballot's parts
 module _ (hash : List ℕ → List ℕ) (job : Job) (k : ℕ) where
@@ -83,11 +88,8 @@ module _ (hash : List ℕ → List ℕ) (job : Job) (k : ℕ) where
       )
 
   -- ---- the record
-  module _ (f : Fine hash job) (in-round : 0 < plainResult job .rounds) (in-ballots : k < job .K) (s : List ℕ)
-      (stands : Stands s (recordAt (job .n) (job .K) 0 k) (jobBallot hash job g k)) where
-    abbrev at : ℕ
-    at = recordAt (job .n) (job .K) 0 k
-
+  module _ (f : Fine hash job) (in-round : 0 < plainResult job .rounds) (in-ballots : k < job .K)
+      (s : List ℕ) (at : ℕ) (stands : Stands s at (jobBallot hash job g k)) where
     abbrev M : Matrix
     M = jobMatrix job g [] 0 k
 
@@ -104,49 +106,36 @@ module _ (hash : List ℕ → List ℕ) (job : Job) (k : ℕ) where
     pub ballot-matrix : SameMatrix (job .n) (job .n) (matrixAt s (job .n) at) M
     ballot-matrix = written-matrix hash job f [] 0 k s at (job .n) (stands-left thePairs (theEntries ++ theRows ++ theColumns) after-number)
 
-    entry-stands : (i j : ℕ) → i < job .n → j < job .n → Stands s (entryProof s (headerOf hash job) k i j) (proofBytes g (entry i j) hash (job .label))
+    entry-stands : (i j : ℕ) → i < job .n → j < job .n → Stands s (entryProof (job .n) at i j) (proofBytes g (entry i j) hash (job .label))
     entry-stands i j a b =
         stands-moved (omega arith)
         (stands-block (job .n) 32 _ (λ j _. length-proof hash (job .label) g (entry i j))
         (stands-block (job .n) (job .n * 32) _ (λ i _. length-proofs hash (job .label) g (job .n) 2 1 (entry i) (λ _. refl) (λ _. refl)) (stands-left theEntries theRows two) i a) j b)
 
-    row-stands : (i : ℕ) → i < job .n → Stands s (rowProof s (headerOf hash job) k i) (proofBytes g (row i) hash (job .label))
+    row-stands : (i : ℕ) → i < job .n → Stands s (rowProof (job .n) at i) (proofBytes g (row i) hash (job .label))
     row-stands i a = stands-moved (omega arith) (stands-block (job .n) 16 _ (λ i _. length-proof hash (job .label) g (row i)) (stands-right theEntries theRows (length-entries hash (job .label) g (job .n) (rowsOf job [] k) (job .draws) (drawsAt (job .n) (job .K) 0 k)) two) i a)
 
-    column-stands : (j : ℕ) → j < job .n → Stands s (columnProof s (headerOf hash job) k j) (proofBytes g (column j) hash (job .label))
+    column-stands : (j : ℕ) → j < job .n → Stands s (columnProof (job .n) at j) (proofBytes g (column j) hash (job .label))
     column-stands j a = stands-moved (omega arith) (stands-block (job .n) 16 _ (λ i _. length-proof hash (job .label) g (column i)) (stands-right (theEntries ++ theRows) theColumns two-length three) j a)
 
-    fields : ballotFields s (headerOf hash job) k ≡ true
-    unfolding ballotFields
-    fields =
-        and-true
-        (and-true
-        (and-true (written-good hash job f [] 0 k s (job .n) _ ballot-matrix)
-        (all-true (job .n) _ (λ i a. all-true (job .n) _ (λ j b.
-        honest-fields hash (job .label) g _ (entry-honest hash job f k in-round in-ballots i j a b) s _ (entry-stands i j a b)))))
-        (all-true (job .n) _ (λ i a. honest-fields hash (job .label) g _ (row-honest hash job f k in-round in-ballots i a) s _ (row-stands i a))))
-        (all-true (job .n) _ (λ j b. honest-fields hash (job .label) g _ (column-honest hash job f k in-round in-ballots j b) s _ (column-stands j b)))
-
-    proofs : ballotProofs hash s (headerOf hash job) k ≡ true
-    unfolding ballotProofs
-    proofs =
-        and-true
-        (and-true
-        (all-true (job .n) _ (λ i a. all-true (job .n) _ (λ j b.
-        honest-holds hash (job .label) g _ (entry-honest hash job f k in-round in-ballots i j a b) s _ (entry-stands i j a b) _
-        (λ l _ _ _. entry-same g (job .n) _ _ (job .n) i j l ballot-matrix a b))))
-        (all-true (job .n) _ (λ i a.
-        honest-holds hash (job .label) g _ (row-honest hash job f k in-round in-ballots i a) s _ (row-stands i a) _
-        (λ _ _ _ _. row-same g (job .n) _ _ (job .n) i ballot-matrix a))))
-        (all-true (job .n) _ (λ j b.
-        honest-holds hash (job .label) g _ (column-honest hash job f k in-round in-ballots j b) s _ (column-stands j b) _
-        (λ _ _ _ _. column-same g (job .n) _ _ j ballot-matrix b)))
-
-    pub ballot-fault : (a : ℕ) → recordFault hash s (headerOf hash job) a 0 k ≡ 0
-    unfolding recordFault firstFault ballotBytes recordLength
-    ballot-fault a =
-        let long : at + recordLength (job .n) 0 ≤ length s = omega (arith, stands .fits, length-ballot hash (job .label) g (job .n) (rowsOf job [] k) (job .draws) (drawsAt (job .n) (job .K) 0 k) (k + 1)) in
-        let first : getD s at 0 ≡ 66 = byte-stands stands in
-        let second : getD s (at + 1) 0 ≡ 65 = stands .same 1 (omega arith) in
-        let number : number2 s (at + 2) ≡ k + 1 = half-stands (omega (arith, f .K-high)) (stands-left (bytes2 (k + 1)) _ (stands-right (66 ∷ 65 ∷ []) _ refl stands)) in
-        rw (le-leb _ _ long, first, second, eq-eqb _ _ number, fields, proofs)
+    pub ballot-kept : BallotRules hash s (headerOf hash job) at (k + 1)
+    unfolding ballotBytes recordBytes recordLength
+    ballot-kept =
+        record {
+          fits = omega (arith, stands .fits, length-record hash job g [] 0 0 k);
+          marked = mark-stands stands;
+          numbered = half-stands (omega (arith, f .K-high)) (stands-left (bytes2 (k + 1)) _ (stands-right (66 ∷ 65 ∷ []) _ refl stands));
+          pairs = written-good hash job f [] 0 k (job .n) _ ballot-matrix;
+          entry-fields = λ i j a b. honest-fields hash (job .label) g _ (entry-honest hash job f k in-round in-ballots i j a b) s _ (entry-stands i j a b);
+          row-fields = λ i a. honest-fields hash (job .label) g _ (row-honest hash job f k in-round in-ballots i a) s _ (row-stands i a);
+          column-fields = λ j b. honest-fields hash (job .label) g _ (column-honest hash job f k in-round in-ballots j b) s _ (column-stands j b);
+          entries = λ i j a b.
+              honest-holds hash (job .label) g _ (entry-honest hash job f k in-round in-ballots i j a b) s _ (entry-stands i j a b) _
+              (λ l _ _ _. entry-same g (job .n) _ _ (job .n) i j l ballot-matrix a b);
+          rows = λ i a.
+              honest-holds hash (job .label) g _ (row-honest hash job f k in-round in-ballots i a) s _ (row-stands i a) _
+              (λ _ _ _ _. row-same g (job .n) _ _ (job .n) i ballot-matrix a);
+          columns = λ j b.
+              honest-holds hash (job .label) g _ (column-honest hash job f k in-round in-ballots j b) s _ (column-stands j b) _
+              (λ _ _ _ _. column-same g (job .n) _ _ j ballot-matrix b);
+        }

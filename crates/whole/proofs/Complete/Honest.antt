@@ -2,25 +2,27 @@
 use Prim.Native.Nat.{ℕ, _+_, _*_, _-_, _%_, _^_, _≤_, _<_}
 use native.Mathlib.Nat.{mod-lt, mod-mod, mul-le-mul-right, add-assoc, mod-self, zero-mod, add-mod-mod, mod-add-mod, add-zero, sub-add-cancel}
 use native.Mathlib.Omega.{arith}
-use mathlib.Core.Path.{_≡_, refl, sym, _∙_}
+use mathlib.Core.Path.{_≡_, refl, sym, subst, fun-ext, _∙_}
 use mathlib.Core.Bool.{true, false, cond}
 use mathlib.Core.List.{List, _++_}
 use lib.Dec.{ltb, eqb}
-use borrow.Author.Tests.{ltb-true, ltb-false, eqb-true, eqb-false, lt-ltb, eq-eqb}
+use borrow.Author.Tests.{ltb-true, ltb-false, eqb-true, eqb-false}
 use Rattle.numbers.specs.Below.{sumBelow, concatBelow}
 use Rattle.rules.specs.Bytes.{number4, part, bytes4, Stands}
 use Rattle.group.specs.Elements.{Parameters, isElement}
 use Rattle.group.specs.Arithmetic.{powMod}
 use Rattle.numbers.proofs.Residues.{mul-mod-right}
-use Rattle.rules.specs.Proofs.{Statement, statementHolds, branchAt, statementAt, proofFields, commitments, proofHolds}
-use Rattle.jobs.specs.Prover.{Prover, commitment, committed, wholeChallenge, trueChallenge, challengeOf, responseOf, proofBytes, drawsOf, branchBytes}
-use Rattle.numbers.proofs.Tests.{by-cases, and-true, all-true}
+use Rattle.rules.specs.Proofs.{Statement, branchAt, statementAt, commitments}
+use Rattle.jobs.specs.Prover.{Prover, committed, wholeChallenge, trueChallenge, challengeOf, responseOf, proofBytes, drawsOf, branchBytes}
+use Rattle.numbers.proofs.Tests.{by-cases}
 use Rattle.numbers.proofs.Blocks.{blocks-same}
 use Rattle.numbers.proofs.Sums.{sum-one-out, sum-same, sum-add, sum-multiples}
 use Rattle.rules.proofs.Elements.{Good, root-mul, root-pow, root-mod, root-element}
 use Rattle.numbers.proofs.Completeness.{false-equation, true-equation}
 use Rattle.rules.proofs.Places.{stands-left, stands-right, stands-moved, stands-block, word-stands, part-stands}
 use Rattle.jobs.proofs.Lengths.{length-branch}
+use Rattle.jobs.proofs.Commitments.{commitment, committed-is}
+use Rattle.whole.specs.Rules.{ProofFields, ProofEquations}
 
 -- what makes a proof honest: sides that are elements, a true branch whose witness is known, draws below q
 pub record Honest (g : Parameters) (pr : Prover) : Type 0 where
@@ -45,7 +47,10 @@ module _ (hash : List ℕ → List ℕ) (label : List ℕ) (g : Parameters) (pr 
   commit base side l i = commitment g pr base side l i
 
   abbrev both : (l i : ℕ) → List ℕ
-  both l i = committed g pr l i
+  both l i = bytes4 (commit (g .g0) (claim l i .left) l i) ++ bytes4 (commit (g .g1) (claim l i .right) l i)
+
+  committed-both : committed g pr ≡ both
+  committed-both = fun-ext (λ l. fun-ext (λ i. committed-is g pr l i))
 
   abbrev whole : ℕ
   whole = wholeChallenge g pr hash label
@@ -127,7 +132,9 @@ module _ (hash : List ℕ → List ℕ) (label : List ℕ) (g : Parameters) (pr 
   module _ (h : Honest g pr) (s : List ℕ) (at : ℕ) (stands : Stands s at bytes) where
     branch-stands : (l : ℕ) → l < branches → Stands s (branchAt at statements l) (bytes4 (challenge l) ++ concatBelow statements (λ i. both l i ++ bytes4 (response l i)))
     unfolding proofBytes branchBytes
-    branch-stands l a = stands-block branches (4 + 12 * statements) _ (λ l _. length-branch (challenge l) statements (both l) (response l) (λ _ _. refl)) stands l a
+    branch-stands l a =
+        stands-block branches (4 + 12 * statements) _ (λ l _. length-branch (challenge l) statements (both l) (response l) (λ _ _. refl))
+        (subst (λ (t : ℕ → ℕ → List ℕ). Stands s at (concatBelow branches (λ l. branchBytes (challenge l) statements (t l) (response l)))) committed-both stands) l a
 
     read-challenge : (l : ℕ) → l < branches → number4 s (branchAt at statements l) ≡ challenge l
     read-challenge l a = word-stands (omega (arith, challenge-below h l a, h .good)) (stands-left (bytes4 (challenge l)) _ (branch-stands l a))
@@ -161,32 +168,33 @@ module _ (hash : List ℕ → List ℕ) (label : List ℕ) (g : Parameters) (pr 
       read-response =
           word-stands (omega (arith, response-below h l i a b, h .good)) (stands-right (both l i) _ refl statement-stands)
 
-    pub honest-fields : proofFields s at branches statements (g .p) (g .q) ≡ true
-    unfolding proofFields
+    pub honest-fields : ProofFields s g at branches statements
     honest-fields =
-        all-true branches _ (λ l a.
-        rw (read-challenge l a) (and-true (lt-ltb _ _ (challenge-below h l a))
-        (all-true statements _ (λ i b.
-        rw (read-first l i a b, read-second l i a b, read-response l i a b)
-        (and-true
-        (and-true (commitment-element h (g .g0) (claim l i .left) l i a b (h .good .root0) (first-root l i a b))
-        (commitment-element h (g .g1) (claim l i .right) l i a b (h .good .root1) (second-root l i a b)))
-        (lt-ltb _ _ (response-below h l i a b)))))))
+        record {
+          e-below = λ l a. rw (read-challenge l a) (challenge-below h l a);
+          t1-element = λ l i a b. rw (read-first l i a b) (commitment-element h (g .g0) (claim l i .left) l i a b (h .good .root0) (first-root l i a b));
+          t2-element = λ l i a b. rw (read-second l i a b) (commitment-element h (g .g1) (claim l i .right) l i a b (h .good .root1) (second-root l i a b));
+          r-below = λ l i a b. rw (read-response l i a b) (response-below h l i a b);
+        }
 
     -- the checker's claim need be the writer's at the proof's own branches and statements only
     pub honest-holds : (claim' : ℕ → ℕ → Statement) → ((l i : ℕ) → l < branches → i < statements → claim' l i ≡ claim l i) →
-        proofHolds s at branches statements hash label g claim' ≡ true
-    unfolding proofHolds statementHolds powMod commitments wholeChallenge
+        ProofEquations s g at branches statements hash label (g .g0) (g .g1) claim'
+    unfolding powMod commitments wholeChallenge
     honest-holds claim' same =
-        and-true
-        (all-true branches _ (λ l a. all-true statements _ (λ i b.
-        rw (same l i a b, read-first l i a b, read-second l i a b, read-response l i a b, read-challenge l a)
-        (and-true
-        (eq-eqb _ _ (equation h (g .g0) (claim l i .left) l i a b (h .good .root0) (first-root l i a b) (λ e. rw e (h .known-left i b)) ∙ sym (mul-mod-right _ _ (g .p))))
-        (eq-eqb _ _ (equation h (g .g1) (claim l i .right) l i a b (h .good .root1) (second-root l i a b) (λ e. rw e (h .known-right i b)) ∙ sym (mul-mod-right _ _ (g .p))))))))
-        (rw (
-          sum-same branches (λ l. number4 s (branchAt at statements l)) challenge read-challenge,
-          blocks-same branches (λ l. concatBelow statements (λ i. part s (statementAt at statements l i) 8)) (λ l. concatBelow statements (both l))
-              (λ l a. blocks-same statements _ (both l) (λ i b. read-both l i a b)),
-        )
-        (eq-eqb _ _ (challenges h ∙ mod-mod _ (g .q))))
+        record {
+          first = λ l i a b.
+              rw (same l i a b, read-first l i a b, read-response l i a b, read-challenge l a)
+              (equation h (g .g0) (claim l i .left) l i a b (h .good .root0) (first-root l i a b) (λ e. rw e (h .known-left i b)) ∙ sym (mul-mod-right _ _ (g .p)));
+          second = λ l i a b.
+              rw (same l i a b, read-second l i a b, read-response l i a b, read-challenge l a)
+              (equation h (g .g1) (claim l i .right) l i a b (h .good .root1) (second-root l i a b) (λ e. rw e (h .known-right i b)) ∙ sym (mul-mod-right _ _ (g .p)));
+          adds-up =
+              rw (
+                sum-same branches (λ l. number4 s (branchAt at statements l)) challenge read-challenge,
+                blocks-same branches (λ l. concatBelow statements (λ i. part s (statementAt at statements l i) 8)) (λ l. concatBelow statements (both l))
+                    (λ l a. blocks-same statements _ (both l) (λ i b. read-both l i a b)),
+                ← committed-both,
+              )
+              (challenges h ∙ mod-mod _ (g .q));
+        }

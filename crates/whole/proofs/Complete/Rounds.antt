@@ -2,7 +2,7 @@
 use Prim.Native.Nat.{ℕ, zero, suc, _+_, _*_, _-_, _≤_, _<_}
 use native.Mathlib.Nat.{le-of-eq, eq-or-lt-of-le, sub-zero}
 use native.Mathlib.Omega.{arith}
-use mathlib.Core.Path.{_≡_, refl, subst, subst⁻¹, _∙_, ap}
+use mathlib.Core.Path.{_≡_, refl, sym, subst, subst⁻¹, _∙_, ap}
 use mathlib.Core.Bool.{Bool, true, false, cond}
 use mathlib.Core.List.{List, [], _∷_, _++_}
 use mathlib.Core.Logic.{⊎-elim}
@@ -11,13 +11,15 @@ use lib.ListN.{length, getD, length-append}
 use borrow.Author.Tests.{eq-eqb}
 use Rattle.numbers.specs.Below.{concatBelow}
 use Rattle.group.specs.Elements.{Parameters}
-use Rattle.rules.specs.Claims.{matrixAt}
-use Rattle.rules.specs.Records.{recordLength, sheetLength, roundAt, recordAt}
+use Rattle.rules.specs.Records.{recordLength, sheetLength}
 use Rattle.rules.specs.Count.{Standing, next}
-use Rattle.rules.specs.Check.{Verdict, accepted, Header, header, recordFault, outField, counts, sheetFault, ending, roundVerdict, checkFrom, matrix}
-use Rattle.jobs.specs.Job.{Job, groupOf, headerOf, rankingOf, remaining, plainResult, recordDraws, roundDraws}
+use Rattle.rules.specs.Header.{Header, header}
+use Rattle.rules.specs.Check.{Verdict, accepted, roundsRead, place, outField, counts, ending, roundVerdict, checkFrom, matrix}
+use Rattle.jobs.specs.Job.{Job, groupOf, headerOf, rankingOf, remaining, plainResult, recordDraws, roundDraws, roundAt}
 use Rattle.jobs.specs.Board.{jobMatrix, recordBytes, roundsFrom, jobSheet}
 use Rattle.rules.specs.Openings.{OpensTo, listAt}
+use Rattle.whole.specs.SecondDemand.{RecordRules, RoundSheetRules}
+use Rattle.whole.proofs.Rules.{record-rules, round-sheet-rules}
 use Rattle.whole.proofs.Verdicts.{round-read}
 use Rattle.jobs.proofs.FineJob.{Fine}
 use Rattle.whole.proofs.Complete.Written.{secret-at, secret}
@@ -26,15 +28,16 @@ use Rattle.jobs.proofs.Lists.{strike}
 use Rattle.rules.proofs.Orders.{orders-of-test}
 use Rattle.rules.proofs.Leaving.{In}
 use Rattle.jobs.proofs.Matrices.{SameMatrix}
-use Rattle.whole.proofs.Complete.BallotRecord.{ballot-matrix, ballot-fault}
-use Rattle.whole.proofs.Complete.ShiftRecord.{shift-matrix, shift-fault}
-use Rattle.whole.proofs.Complete.SheetRecord.{read-out, read-counts, sheet-fault}
+use Rattle.whole.proofs.Complete.BallotRecord.{ballot-matrix, ballot-kept}
+use Rattle.whole.proofs.Complete.ShiftRecord.{shift-matrix, shift-kept}
+use Rattle.whole.proofs.Complete.SheetRecord.{read-counts, sheet-kept}
 use Rattle.rules.specs.Bytes.{Stands}
-use Rattle.rules.proofs.Places.{stands-left, stands-right, stands-block}
+use Rattle.rules.proofs.Places.{stands-left, stands-right, stands-moved, stands-block}
 use Rattle.numbers.proofs.Blocks.{length-blocks}
 use Rattle.jobs.specs.Records.{matrixOf}
 use Rattle.jobs.proofs.Counting.{in-once, Reached, countsIn, closesIn, leavesIn, in-rounds, leaves-still-in, plain-closed, next-reached}
 use Rattle.jobs.proofs.Lengths.{length-sheet, length-record}
+use Rattle.jobs.proofs.Positions.{round-is, place-is}
 
 module _ (hash : List ℕ → List ℕ) (job : Job) where
   abbrev g : Parameters
@@ -49,7 +52,7 @@ module _ (hash : List ℕ → List ℕ) (job : Job) where
   module _ (s : List ℕ) where
     -- the matrices of round m are read as they were written
     abbrev Read : List ℕ → ℕ → Type 0
-    Read gone m = (k : ℕ) → k < job .K → SameMatrix (job .n - m) (job .n) (matrixAt s (job .n) (recordAt (job .n) (job .K) m k)) (jobMatrix job g gone m k)
+    Read gone m = (k : ℕ) → k < job .K → SameMatrix (job .n - m) (job .n) (matrix s h m k) (jobMatrix job g gone m k)
 
     abbrev Short : List ℕ → ℕ → Type 0
     Short gone m = (k : ℕ) → k < job .K → length (remaining gone (rankingOf job k)) ≡ job .n - m
@@ -74,23 +77,19 @@ module _ (hash : List ℕ → List ℕ) (job : Job) where
       pub whole : length s ≡ roundAt (job .n) (job .K) m + length (roundsFrom hash job g fuel st m before a)
 
     module _ (f : Fine hash job) (heads : header s ≡ h) where
-      -- the records of a round
-      records : (gone before : List ℕ) (a m : ℕ) → Prior gone before a m → m < plainResult job .rounds → m + 2 ≤ job .n →
-          Stands s (roundAt (job .n) (job .K) m) (concatBelow (job .K) (recordBytes hash job g before a m)) →
-          (k : ℕ) → k < job .K →
-          (recordFault hash s h a m k ≡ 0)
-          × SameMatrix (job .n - m) (job .n) (matrixAt s (job .n) (recordAt (job .n) (job .K) m k)) (jobMatrix job g gone m k)
-      unfolding recordBytes recordAt
-      records gone before a zero prior in-round early stands k l =
-          let here = stands-block (job .K) (recordLength (job .n) 0) _ (λ k _. length-record hash job g before a 0 k) stands k l in
-          (ballot-fault hash job k f in-round l s here a, rw (prior, sub-zero) (ballot-matrix hash job k f in-round l s here))
-      records gone before a (suc m) prior in-round early stands k l =
-          let here = stands-block (job .K) (recordLength (job .n) (suc m)) _ (λ k _. length-record hash job g before a (suc m) k) stands k l in
+      -- a record of a round
+      record-kept : (gone before : List ℕ) (a m k : ℕ) → Prior gone before a m → m < plainResult job .rounds → m + 2 ≤ job .n → k < job .K →
+          Stands s (place s h m k) (recordBytes hash job g before a m k) →
+          RecordRules hash s h a m k × SameMatrix (job .n - m) (job .n) (matrix s h m k) (jobMatrix job g gone m k)
+      unfolding recordBytes
+      record-kept gone before a zero k prior in-round early l here =
+          (ballot-kept hash job k f in-round l s _ here, rw (prior, sub-zero) (ballot-matrix hash job k f in-round l s _ here))
+      record-kept gone before a (suc m) k prior in-round early l here =
           let o = in-once (job .n) before (rankingOf job k) a (f .ranked k l) (prior .was-in) in
           let low = prior .was-in .low in
           let high = prior .was-in .high in (
-            shift-fault hash job before a m k f in-round l (omega arith) low high o (le-of-eq (prior .short k l)) s (prior .read k l) here,
-            rw (prior .struck) (shift-matrix hash job before a m k f in-round l (omega arith) low high o (le-of-eq (prior .short k l)) s (prior .read k l) here),
+            shift-kept hash job before a m k f in-round l (omega arith) low high o (le-of-eq (prior .short k l)) s _ _ (prior .read k l) here,
+            rw (prior .struck) (shift-matrix hash job before a m k f in-round l (omega arith) low high o (le-of-eq (prior .short k l)) s _ _ (prior .read k l) here),
           )
 
       one-below : (b : Bool) → cond b 1 0 < job .q
@@ -121,27 +120,32 @@ module _ (hash : List ℕ → List ℕ) (job : Job) where
         unfolding roundsFrom
         split = r .rest
 
-        sheet-stands : Stands s (recordAt (job .n) (job .K) m (job .K)) (jobSheet job g m (cond closing 0 leaving) C)
-        unfolding recordAt
-        sheet-stands =
-            let t : Stands s (recordAt (job .n) (job .K) m (job .K)) tail = stands-right (concatBelow (job .K) (recordBytes hash job g before a m)) tail (records-length before a m) split in
-            by-cases closing (λ e. rw e (rw e at t)) (λ e. rw e (stands-left (jobSheet job g m leaving C) after (rw e at t)))
+        -- the sheet, and the rounds after it
+        tail-stands : Stands s (roundAt (job .n) (job .K) m + job .K * recordLength (job .n) m) tail
+        tail-stands = stands-right (concatBelow (job .K) (recordBytes hash job g before a m)) tail (records-length before a m) split
 
-        round-records : (k : ℕ) → k < job .K →
-            (recordFault hash s h a m k ≡ 0)
-            × SameMatrix (job .n - m) (job .n) (matrixAt s (job .n) (recordAt (job .n) (job .K) m k)) (jobMatrix job g (st .gone) m k)
-        round-records = records (st .gone) before a m (r .prior) in-round (r .count .early) (stands-left (concatBelow (job .K) (recordBytes hash job g before a m)) tail split)
+        sheet-stands : Stands s (place s h m (job .K)) (jobSheet job g m (cond closing 0 leaving) C)
+        sheet-stands =
+            stands-moved (sym (place-is s h m (job .K)))
+            (by-cases closing (λ e. rw e (rw e at tail-stands)) (λ e. rw e (stands-left (jobSheet job g m leaving C) after (rw e at tail-stands))))
+
+        round-records : (k : ℕ) → k < job .K → RecordRules hash s h a m k × SameMatrix (job .n - m) (job .n) (matrix s h m k) (jobMatrix job g (st .gone) m k)
+        round-records k l =
+            record-kept (st .gone) before a m k (r .prior) in-round (r .count .early) l
+            (stands-moved (sym (place-is s h m k))
+            (stands-block (job .K) (recordLength (job .n) m) _ (λ k _. length-record hash job g before a m k)
+            (stands-left (concatBelow (job .K) (recordBytes hash job g before a m)) tail split) k l))
 
         round-counts : counts s h m ≡ C
-        round-counts = read-counts hash job (st .gone) m f s (cond closing 0 leaving) sheet-stands
+        round-counts = read-counts hash job (st .gone) m f s _ (cond closing 0 leaving) sheet-stands
 
-        sheet-good : sheetFault s h m (cond closing 0 leaving) ≡ 0
+        sheet-good : RoundSheetRules s h m (cond closing 0 leaving)
         sheet-good =
-            sheet-fault hash job (st .gone) m f s (cond closing 0 leaving) sheet-stands (job .n - m) (omega (arith, r .count .early)) (λ k l. round-records k l .1)
-            (cond closing 0 leaving) refl
+            sheet-kept hash job (st .gone) m f s _ (cond closing 0 leaving) sheet-stands (matrix s h m) (job .n - m) (omega (arith, r .count .early)) (λ k l. round-records k l .1)
 
-        round-is : (later : Verdict) → roundVerdict hash s h st m a later ≡ cond closing (ending s h st m) later
-        round-is later = round-read hash s h st m a later (λ k l. round-records k l .0) (rw round-counts sheet-good) ∙ rw round-counts
+        verdict-is : (later : Verdict) → roundVerdict hash s h st m a later ≡ cond closing (ending s h st m) later
+        verdict-is later =
+            round-read hash s h st m a later (λ k l. record-rules hash s h a m k .1 (round-records k l .0)) (rw round-counts (round-sheet-rules s h m _ .1 sheet-good)) ∙ rw round-counts
 
         -- its matrices open
         round-opens : (k : ℕ) → k < job .K → OpensTo g (job .n - m) (job .n) (matrix s h m k) (listAt s (rankingOf job) m k)
@@ -164,41 +168,41 @@ module _ (hash : List ℕ → List ℕ) (job : Job) where
         sheet-long : (out : ℕ) → length (jobSheet job g m out C) ≡ sheetLength (job .n)
         sheet-long out = length-sheet (job .q) (job .n) (job .K) (job .draws) (roundDraws (job .n) (job .K) m) (recordDraws (job .n) m) m out C
 
-        tail-whole : length s ≡ recordAt (job .n) (job .K) m (job .K) + length tail
-        unfolding roundsFrom recordAt
+        tail-whole : length s ≡ roundAt (job .n) (job .K) m + job .K * recordLength (job .n) m + length tail
+        unfolding roundsFrom
         tail-whole =
             let e : length s ≡ roundAt (job .n) (job .K) m + length (concatBelow (job .K) (recordBytes hash job g before a m) ++ tail) = r .whole in
             omega (arith, length-append (concatBelow (job .K) (recordBytes hash job g before a m)) tail, records-length before a m)
 
         -- the round that closes the board
         closed : closing ≡ true → checkFrom hash s h (suc fuel) st m a ≡ accepted (plainResult job .rounds) (plainResult job .order) (plainResult job .winner)
-        unfolding checkFrom
+        unfolding checkFrom roundAt
         closed e =
             let t : length tail ≡ sheetLength (job .n) = rw e (sheet-long 0) in
-            round-is _ ∙ rw e (rw (eq-eqb (length s) (recordAt (job .n) (job .K) m (job .K) + sheetLength (job .n)) (omega (arith, tail-whole)), round-counts, plain-closed job (f .ranked) (r .count) e, r .count .sheeted))
+            let over : length s ≡ roundsRead s h (suc m) .place = omega (arith, tail-whole, round-is s h (suc m)) in
+            verdict-is _ ∙ rw e (rw (eq-eqb _ _ over, round-counts, plain-closed job (f .ranked) (r .count) e, r .count .sheeted))
 
         next-listed : closing ≡ false → (k : ℕ) → listAt s (rankingOf job) (suc m) k ≡ remaining (st .gone ++ (leaving ∷ [])) (rankingOf job k)
         unfolding listAt
         next-listed e k =
             let o : outField s (header s) m ≡ leaving =
-            subst⁻¹ (λ h. outField s h m ≡ leaving) heads (read-out hash job (st .gone) m f s (cond closing 0 leaving) sheet-stands ∙ rw e) in
+            subst⁻¹ (λ h. outField s h m ≡ leaving) heads (sheet-good .out-due ∙ rw e) in
             rw (o, r .listed k) (strike leaving (st .gone) (rankingOf job k))
 
         -- a round after which others come
         going : closing ≡ false → checkFrom hash s h (suc fuel) st m a ≡ checkFrom hash s h fuel (next (job .n) st C) (suc m) leaving
         unfolding checkFrom
-        going e = round-is _ ∙ rw e (rw round-counts)
+        going e = verdict-is _ ∙ rw e (rw round-counts)
 
         opened : closing ≡ false → Reach fuel (next (job .n) st C) (suc m) (st .gone) leaving
-        unfolding roundAt recordAt
+        unfolding roundAt
         opened e =
-            let t : Stands s (recordAt (job .n) (job .K) m (job .K)) tail = stands-right (concatBelow (job .K) (recordBytes hash job g before a m)) tail (records-length before a m) split in
-            let w : length s ≡ recordAt (job .n) (job .K) m (job .K) + length (jobSheet job g m leaving C ++ after) = rw e at tail-whole in
+            let w : length s ≡ roundAt (job .n) (job .K) m + job .K * recordLength (job .n) m + length (jobSheet job g m leaving C ++ after) = rw e at tail-whole in
             record {
               count = next-reached job (f .ranked) (r .count) e;
               listed = next-listed e;
               prior = record { struck = refl; was-in = leaves-still-in job (f .ranked) (r .count); short = r .count .short; read = λ k l. round-records k l .1 };
-              rest = stands-right (jobSheet job g m leaving C) after (sheet-long leaving) (rw e at t);
+              rest = stands-right (jobSheet job g m leaving C) after (sheet-long leaving) (rw e at tail-stands);
               whole = omega (arith, length-append (jobSheet job g m leaving C) after, sheet-long leaving);
             }
 

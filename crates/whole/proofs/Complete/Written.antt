@@ -10,8 +10,7 @@ use lib.ListN.{getD}
 use Rattle.numbers.specs.Below.{sumBelow}
 use Rattle.group.specs.Arithmetic.{powMod}
 use Rattle.rules.specs.Group.{paired}
-use Rattle.rules.specs.Claims.{lineClaim, entryClaim, rowClaim, columnClaim}
-use Rattle.jobs.specs.Board.{jobMatrix}
+use Rattle.rules.specs.Claims.{lineClaim, entryClaim}
 use Rattle.jobs.specs.Job.{Job, groupOf, rankingOf, remaining, recordDraws, roundDraws, drawsAt, needed, plainResult, draw, rowsOf}
 use Rattle.rules.proofs.Elements.{Good, power-root, pair-root, paired-mod, root-mod, root-over, root-prod}
 use Rattle.whole.proofs.Complete.Honest.{Honest}
@@ -49,15 +48,13 @@ module _ (hash : List ℕ → List ℕ) (job : Job) (f : Fine hash job) (k : ℕ
   good : Good (groupOf hash job)
   good = good-group hash job f
 
-  entry-left : (i j l : ℕ) → entryClaim (groupOf hash job) (jobMatrix job (groupOf hash job) [] 0 k) i j l .left ^ job .q % job .p ≡ 1
-  unfolding entryClaim matrixOf
-  entry-left i j zero = pair-root (groupOf hash job) good _ _
-  entry-left i j (suc l) = root-over (groupOf hash job) good _ _ (pair-root (groupOf hash job) good _ _) (good .root1)
-
-  entry-right : (i j l : ℕ) → entryClaim (groupOf hash job) (jobMatrix job (groupOf hash job) [] 0 k) i j l .right ^ job .q % job .p ≡ 1
-  unfolding entryClaim matrixOf
-  entry-right i j zero = power-root (groupOf hash job) good _
-  entry-right i j (suc l) = power-root (groupOf hash job) good _
+  -- both sides of an entry's claim
+  entry-roots : (x v l : ℕ) →
+      (entryClaim (groupOf hash job) (paired (groupOf hash job) x v) (powMod (job .p) (groupOf hash job .g1) x) l .left ^ job .q % job .p ≡ 1)
+      × (entryClaim (groupOf hash job) (paired (groupOf hash job) x v) (powMod (job .p) (groupOf hash job .g1) x) l .right ^ job .q % job .p ≡ 1)
+  unfolding entryClaim
+  entry-roots x v zero = (pair-root (groupOf hash job) good x v, power-root (groupOf hash job) good x)
+  entry-roots x v (suc l) = (root-over (groupOf hash job) good _ _ (pair-root (groupOf hash job) good x v) (good .root1), power-root (groupOf hash job) good x)
 
   pub entry-honest : (i j : ℕ) → i < job .n → j < job .n →
       Honest (groupOf hash job) (entryProver (groupOf hash job) (job .n) (rowsOf job [] k) (job .draws) (drawsAt (job .n) (job .K) 0 k) i j)
@@ -67,11 +64,11 @@ module _ (hash : List ℕ → List ℕ) (job : Job) (f : Fine hash job) (k : ℕ
       record {
         good = good;
         inside = by-cases v (λ e. rw e (omega arith)) (λ e. rw e (omega arith));
-        root-left = λ l _ _ _. entry-left i j l;
-        root-right = λ l _ _ _. entry-right i j l;
+        root-left = λ l _ _ _. entry-roots _ _ l .0;
+        root-right = λ l _ _ _. entry-roots _ _ l .1;
         known-left = λ _ _. by-cases v
-            (λ e. rw e (rw e (pair-one (groupOf hash job) good _ _ (paired-mod (groupOf hash job) _ _))))
-            (λ e. rw e (rw e (pair-zero (groupOf hash job) good _)));
+            (λ e. rw e (pair-one (groupOf hash job) good _ _ (paired-mod (groupOf hash job) _ _)))
+            (λ e. rw e (pair-zero (groupOf hash job) good _));
         known-right = λ _ _. by-cases v (λ e. rw e (mod-mod _ (job .p))) (λ e. rw e (mod-mod _ (job .p)));
         drawn = λ d l. draw-below hash job f 0 k in-round in-ballots (job .n * job .n + 3 * (i * job .n + j) + d) _ (omega (arith, cell (job .n) (job .n) i j a b)) (omega arith);
       }
@@ -86,6 +83,7 @@ module _ (hash : List ℕ → List ℕ) (job : Job) (f : Fine hash job) (k : ℕ
 
     line-honest : (from : ℕ) → from ≡ drawsAt (job .n) (job .K) 0 k + d →
         Honest (groupOf hash job) (lineProver (job .draws) (lineClaim (groupOf hash job) (job .n) lineFirsts lineSeconds) (sumBelow (job .n) x) from)
+    unfolding lineClaim
     line-honest from e =
         record {
           good = good;
@@ -99,14 +97,14 @@ module _ (hash : List ℕ → List ℕ) (job : Job) (f : Fine hash job) (k : ℕ
         }
 
   pub row-honest : (i : ℕ) → i < job .n → Honest (groupOf hash job) (rowProver (groupOf hash job) (job .n) (rowsOf job [] k) (job .draws) (drawsAt (job .n) (job .K) 0 k) i)
-  unfolding rowClaim matrixOf recordDraws
+  unfolding matrixOf recordDraws
   row-honest i a =
       line-honest (λ j. secret job 0 k i j) (λ j. opened (rowsOf job [] k) i j)
       (rw (standing-all (rankingOf job k)) (row-one (job .n) (rankingOf job k) (f .ranked k in-ballots) i a))
       (4 * (job .n * job .n) + i) (omega arith) _ (omega arith)
 
   pub column-honest : (j : ℕ) → j < job .n → Honest (groupOf hash job) (columnProver (groupOf hash job) (job .n) (rowsOf job [] k) (job .draws) (drawsAt (job .n) (job .K) 0 k) j)
-  unfolding columnClaim matrixOf recordDraws
+  unfolding matrixOf recordDraws
   column-honest j a =
       line-honest (λ i. secret job 0 k i j) (λ i. opened (rowsOf job [] k) i j)
       (rw (standing-all (rankingOf job k)) (column-one (job .n) (rankingOf job k) (f .ranked k in-ballots) j a))

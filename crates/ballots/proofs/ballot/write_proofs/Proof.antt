@@ -16,30 +16,30 @@ use Rattle.ballots.proofs.ballot.write_proofs.Tie as tie
 
 write-lines-requires : tie.Need-write-lines-requires
 write-lines-requires c κs =
-    let s = c .before .before .before .before .before .before .before .before .before in
+    let s = c .before .before .before .before .before .before .before .before in
     let p = s .pre .0 in
     ((p .0, p .1, p .2, simp (length-take, length-drop) (omega (arith, p .3, c .before, c .before .before))), s .pre .1 .0)
 
 returns : tie.Need-returns
-returns c =
-    let s = c .before .before .before .before .before .before .before .before .before .before .before .before in
+returns c m fed =
+    let s = c .before .before .before .before .before .before .before .before .before .before .before in
     let f = s .args in
     let g = parametersOf (f .g .group) in
     let list : ℕ → ℕ = λ k. getD (f .b .list) k 0 in
     let M = matrixOf g (f .b .n) list (now (f .draws)) (f .b .from) in
-    more _ _ _ _ _ _ (length-entries (now (f .label)) g (f .b .n) 0 list (now (f .draws)) (f .b .from) (f .b .n * f .b .n)) (c .before .before .before .before .before .before .write-entries .ensures) (c .before .before .write-lines .ensures M)
-    ∙ ap (λ (x : List ℕ). written x (now (f .out))) (proofs-joined (now (f .label)) g (f .b .n) 0 list (now (f .draws)) (f .b .from) (s .pre .0 .1))
+    more _ _ _ _ _ _ (length-entries m g (f .b .n) 0 list (now (f .draws)) (f .b .from) (f .b .n * f .b .n)) (c .before .before .before .before .before .before .write-entries .ensures m fed) (c .before .before .write-lines .ensures m fed M)
+    ∙ ap (λ (x : List ℕ). written x (now (f .out))) (proofs-joined m g (f .b .n) 0 list (now (f .draws)) (f .b .from) (s .pre .0 .1))
 
 pub write-proofs-spec : {M : Type 1} → statement M
 write-proofs-spec =
     tie.close
     (tie.spec
-    (λ c. let s = c .before .before .before .before in omega (arith, cells (s .args .b .n) (s .pre .0 .2)))
-    (λ c κs. let s = c .before .before .before .before .before in let p = s .pre .0 in ((p .0, p .1, p .2, omega (arith, p .3), p .4), s .pre .1))
-    (λ c. let s = c .before .before .before .before .before .before .before .before in omega (arith, cells (s .args .b .n) (s .pre .0 .2)))
-    (λ c. omega (arith, c .before .before .before .before .before .before .before .before .pre .0 .3, c, c .before))
-    (λ c. omega (arith, c .before .before .before .before .before .before .before .before .pre .0 .3, c, c .before))
-    (λ c. omega (arith, c .before .before .before .before .before .before .before .before .pre .0 .3, c, c .before))
+    (λ c. let s = c .before .before .before in omega (arith, cells (s .args .b .n) (s .pre .0 .2)))
+    (λ c κs. let s = c .before .before .before .before in let p = s .pre .0 in ((p .0, p .1, p .2, omega (arith, p .3), p .4), s .pre .1))
+    (λ c. let s = c .before .before .before .before .before .before .before in omega (arith, cells (s .args .b .n) (s .pre .0 .2)))
+    (λ c. omega (arith, c .before .before .before .before .before .before .before .pre .0 .3, c, c .before))
+    (λ c. omega (arith, c .before .before .before .before .before .before .before .pre .0 .3, c, c .before))
+    (λ c. omega (arith, c .before .before .before .before .before .before .before .pre .0 .3, c, c .before))
     write-lines-requires
     (λ c. search needs)
     returns)

@@ -19,11 +19,11 @@ use Rattle.ballots.proofs.lines.write_line.Tie as tie
 
 -- the line is within the matrix
 fits : (c : tie.After-line-of) →
-    let n = c .before .before .before .before .before .args .b .n in
+    let n = c .before .before .before .before .args .b .n in
     let line = c .line-of .result in
     (line .start + line .stride * (n - 1) < n * n) × (line .start < n * n) × (line .stride ≤ n * n) × (n * n ≤ 64)
 fits c =
-    let s = c .before .before .before .before .before in
+    let s = c .before .before .before .before in
     let p = s .pre .0 in
     let w = line-fits (s .args .b .n) (s .args .t) (p .3) in
     rw (c .line-of .ensures .0, c .line-of .ensures .1)
@@ -31,47 +31,51 @@ fits c =
 
 sum-of-requires : tie.Need-sum-of-requires
 sum-of-requires c κs =
-    let s = c .before .before .before .before .before .before in
+    let s = c .before .before .before .before .before in
     let p = s .pre .0 in
     let f = fits (c .before) in
     (p .0 .q-pos, omega (arith, p), omega (arith, f), omega (arith, p, f, s .pre .1 .near), omega (arith, f, s .pre .1 .enough))
 
 make-requires : tie.Need-make-requires
 make-requires c κs =
-    let s = c .before .before .before .before .before .before .before .before .before in
+    let s = c .before .before .before .before .before .before .before .before .before .before in
     let f = s .args in
     let p = s .pre .0 in (
       (
         p .0,
-        planned-line (parametersOf (f .g .group)) (now (f .page)) _ (f .b .n) _ (now (f .draws)) _ (spread-part (f .g .group .q) (now (f .draws)) (f .b .from) _ _ 1 (s .pre .1) (omega (arith, p))),
+        planned-line (parametersOf (f .g .group)) (now (f .page)) _ _ (now (f .draws)) _ (spread-part (f .g .group .q) (now (f .draws)) (f .b .from) _ _ 1 (s .pre .1) (omega (arith, p))),
       ),
       omega (arith, p .4),
     )
 
 returns : tie.Need-returns
 unfolding lineOf
-returns c =
-    let f = c .before .before .before .before .before .before .before .before .before .before .before .before .args in
-    let line = c .before .before .before .before .before .before .before .line-of in
+returns c m fed =
+    let w = c .before .before .before .before .before .before .before .before .before in
+    let f = w .before .before .before .before .args in
+    let line = w .line-of in
     let g = parametersOf (f .g .group) in
     λ M.
-    c .before .before .make .ensures
+    c .before .before .make .ensures m fed
     ∙ ap (λ (w : List ℕ). written w (now (f .out)))
-    (line-is (f .b .n) (Line 0 (f .t)) (now (f .label)) g _ (byLine (f .b .n) (f .t) (rowClaim g (f .b .n) M) (columnClaim g (f .b .n) M)) _ (lineSum (now (f .draws)) (f .b .from) (f .b .n) (f .t)) (now (f .draws)) _
-    (rw (line .ensures .0, line .ensures .1) at (c .before .before .before .before .before .sum-of .ensures)
+    (line-is (Line (4 + 8 * line .result .start) (8 * line .result .stride) (f .b .n)) m g _ (byLine (f .b .n) (f .t) (rowClaim g (f .b .n) M) (columnClaim g (f .b .n) M)) _ (lineSum (now (f .draws)) (f .b .from) (f .b .n) (f .t)) (now (f .draws)) _
+    (rw (line .ensures .0, line .ensures .1) at (c .before .before .before .before .before .before .before .sum-of .ensures)
     ∙ ap (λ (x : ℕ). x % f .g .group .q) (line-sum (now (f .draws)) (f .b .from) (f .b .n) (f .t))))
 
 pub write-line-spec : {M : Type 1} → statement M
 write-line-spec =
     tie.close
     (tie.spec
-    (λ c κs. let s = c .before .before .before .before in (s .pre .0 .3, omega (arith, cells (s .args .b .n) (s .pre .0 .2))))
-    (λ c. omega (arith, fits (c .before), c .before .before .before .before .before .before .pre .1 .near))
+    (λ c κs. let s = c .before .before .before in (s .pre .0 .3, omega (arith, cells (s .args .b .n) (s .pre .0 .2))))
+    (λ c. omega (arith, fits (c .before), c .before .before .before .before .before .pre .1 .near))
     sum-of-requires
-    (λ c. omega (arith, fits (c .before .before)))
-    (λ c. omega (arith, fits (c .before .before)))
-    (λ c. omega (arith, fits (c .before .before), c .before .before .before .before .before .before .before .pre .1 .near))
-    (λ c. omega (arith, fits (c .before .before), c .before .before .before .before .before .before .before .pre))
+    (λ c. omega (arith, fits (c .before .before .before)))
+    (λ c. omega (arith, fits (c .before .before .before)))
+    (λ c. omega (arith, fits (c .before .before .before .before)))
+    (λ c. omega (arith, fits (c .before .before .before .before)))
+    (λ c. omega (arith, fits (c .before .before .before .before)))
+    (λ c. omega (arith, fits (c .before .before .before .before), c .before .before .before .before .before .before .before .before .pre .1 .near))
+    (λ c. omega (arith, fits (c .before .before .before .before), c .before .before .before .before .before .before .before .before .pre))
     (λ c. search needs)
     make-requires
     (λ c. search needs)

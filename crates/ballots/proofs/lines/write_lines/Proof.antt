@@ -1,10 +1,12 @@
-use Prim.Native.Nat.{_+_, _-_, _≤_}
+use Prim.Native.Nat.{ℕ, _+_, _-_, _≤_}
 use mathlib.Core.Path.{_≡_, refl, _∙_}
+use mathlib.Core.List.{List}
 use native.Mathlib.Nat.{mul-comm}
 use native.Mathlib.Omega.{arith}
 use lib.ListN.{length, length-take, length-drop}
 use denote.Ref.{now}
 use Rattle.numbers.specs.Below.{concatBelow}
+use Rattle.sha256.specs.Feed.{Fed}
 use Rattle.group.specs.Elements.{parametersOf}
 use Rattle.rules.specs.Claims.{Matrix}
 use Rattle.output.specs.Written.{written}
@@ -16,22 +18,22 @@ use Rattle.ballots.proofs.lines.write_lines.Statement.{statement}
 use Rattle.ballots.proofs.lines.write_lines.Tie as tie
 
 abbrev Inv-loop : tie.InvT-loop
-Inv-loop out₀ label g page b draws n count t₀ out t =
+Inv-loop out₀ prefix g page b draws n count t₀ out t =
     (t ≤ b .n + b .n) × (length out ≡ length out₀)
-    × ((M : Matrix) → out ≡ written (concatBelow t (lineOf label (parametersOf (g .group)) (b .n) M draws (b .from))) out₀)
+    × ((m : List ℕ) → Fed prefix m → (M : Matrix) → out ≡ written (concatBelow t (lineOf m (parametersOf (g .group)) (b .n) M draws (b .from))) out₀)
 
 abbrev μ-loop : tie.MeasureT-loop
-μ-loop out₀ label g page b draws n count t₀ out t = b .n + b .n - t
+μ-loop out₀ prefix g page b draws n count t₀ out t = b .n + b .n - t
 
 abbrev start-from-loop : tie.At-loop Inv-loop μ-loop → tie.Start Inv-loop μ-loop
-start-from-loop c = c .before .before .before .before .before
+start-from-loop c = c .before .before .before .before
 
 abbrev start-from-slice-known2 : tie.After-slice-known2 Inv-loop μ-loop → tie.Start Inv-loop μ-loop
 start-from-slice-known2 c = start-from-loop (c .before .before .before .before .before)
 
 loop-holds : tie.Need-loop-holds Inv-loop μ-loop
 unfolding concatBelow
-loop-holds c = (omega arith, refl, λ M. none _)
+loop-holds c = (omega arith, refl, λ m f M. none _)
 
 write-line-requires : tie.Need-write-line-requires Inv-loop μ-loop
 write-line-requires c κs =
@@ -45,23 +47,23 @@ loop-again c =
     let f = (start-from-slice-known2 c) .args in (
       omega arith,
       search needs,
-      λ M. block-more (lineOf (now (f .label)) (parametersOf (f .g .group)) (f .b .n) M (now (f .draws)) (f .b .from)) 16 (l .t) _ _ (l .out) _ (λ j h. length-line _ _ _ _ _ _ _) (mul-comm 16 (l .t)) (l .inv .2 M) (c .before .before .write-line .ensures M),
+      λ m fed M. block-more (lineOf m (parametersOf (f .g .group)) (f .b .n) M (now (f .draws)) (f .b .from)) 16 (l .t) _ _ (l .out) _ (λ j h. length-line _ _ _ _ _ _ _) (mul-comm 16 (l .t)) (l .inv .2 m fed M) (c .before .before .write-line .ensures m fed M),
     )
 
 returns : tie.Need-returns Inv-loop μ-loop
 returns c =
     let l = c .before .loop in
-    let n = c .before .before .before .before .before .before .args .b .n in
+    let n = c .before .before .before .before .before .args .b .n in
     let e : l .t ≡ n + n = omega arith in
-    λ M. l .inv .2 M ∙ rw e
+    λ m fed M. l .inv .2 m fed M ∙ rw e
 
 pub write-lines-spec : {M : Type 1} → statement M
 write-lines-spec =
     tie.close
-    (tie.spec Inv-loop μ-loop (λ c. omega (arith, c .before .before .before .before .pre .0 .2)) loop-holds
-    (λ c. omega (arith, c .before .before .before .before .before .before .pre .0 .2))
-    (λ c. omega (arith, c .before .before .before .before .before .before .pre .0, c .before .loop .inv .1))
-    (λ c. omega (arith, c .before .before .before .before .before .before .pre .0, c .before .loop .inv .1))
-    (λ c. omega (arith, c .before .before .before .before .before .before .pre .0, c .before .loop .inv .1)) write-line-requires
+    (tie.spec Inv-loop μ-loop (λ c. omega (arith, c .before .before .before .pre .0 .2)) loop-holds
+    (λ c. omega (arith, c .before .before .before .before .before .pre .0 .2))
+    (λ c. omega (arith, c .before .before .before .before .before .pre .0, c .before .loop .inv .1))
+    (λ c. omega (arith, c .before .before .before .before .before .pre .0, c .before .loop .inv .1))
+    (λ c. omega (arith, c .before .before .before .before .before .pre .0, c .before .loop .inv .1)) write-line-requires
     (λ c. omega (arith, (start-from-slice-known2 c) .pre .0 .2, c .before .before .before .before .loop-test .taken)) (λ c. search needs) loop-again
     (λ c. search needs) returns)

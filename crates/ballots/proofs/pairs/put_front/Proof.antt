@@ -8,10 +8,11 @@ use Rattle.ballots.proofs.pairs.put_front.Tie as tie
 
 returns : tie.Need-returns
 returns c =
-    let s = c .before .before .before .before .before .before .before .before .before .before .before .before .before .before in
+    let w = c .before .before .before .before .before .before in
+    let s = w .before .before .before .before .before .before .before .before in
     let two : length (s .args .mark) ≡ 2 = omega (arith, s .good) in
     more _ _ _ _ _ _ (simp length-append (omega arith))
-    (more _ _ _ _ _ _ two (c .before .before .before .before .before .before .before .before .before .before .put-two .ensures) (c .before .before .before .before .before .before .put-number2 .ensures))
+    (more _ _ _ _ _ _ two (w .before .before .before .before .put-two .ensures) (w .put-number2 .ensures))
     (c .before .before .put-bytes .ensures)
 
 pub put-front-spec : {M : Type 1} → statement M

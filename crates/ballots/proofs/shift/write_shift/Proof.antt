@@ -14,41 +14,45 @@ use borrow.Author.Needs.{needs}
 use Rattle.ballots.proofs.shift.write_shift.Statement.{statement}
 use Rattle.ballots.proofs.shift.write_shift.Tie as tie
 
-abbrev pages-of-from-out : tie.After-out → tie.After-pages-of
-pages-of-from-out c = c .before .before .before .before .before
+-- where the pages were made, from where the label is fed, and the start
+abbrev paged : tie.After-update → tie.After-pages-of
+paged c = c .before .before .before .before .before .before .before .before
 
-abbrev pages-of-from-out2 : tie.After-out2 → tie.After-pages-of
-pages-of-from-out2 c = pages-of-from-out (c .before .before .before .before .before)
+abbrev start : tie.After-struct-known → tie.Start
+start c = c .before .before .before .before .before
 
-few : (c : tie.After-struct-known) → c .before .before .before .before .before .args .s .rows * c .before .before .before .before .before .args .s .n ≤ 56
-few c = let f = c .before .before .before .before .before .args in count-few (parametersOf (f .g .group)) (f .s) (now (f .draws)) (c .before .before .before .before .before .pre .0 .1)
+few : (c : tie.After-struct-known) → let s = start c .args .s in s .rows * s .n ≤ 56
+few c = let f = start c .args in count-few (parametersOf (f .g .group)) (f .s) (now (f .draws)) (start c .pre .0 .1)
 
 write-shift-proof-requires : tie.Need-write-shift-proof-requires
 write-shift-proof-requires c κs =
-    let s = c .before .before .before .before .before .before .before .before .before .before .before .before .before .before in
-    let p = s .pre in
-    ((p .0 .0, p .0 .1, simp (length-take, length-drop) (omega (arith, p .1, c .before .before, c .before .before .before)), omega (arith, (pages-of-from-out (c .before .before .before)) .pages-of .ensures .0)), ((pages-of-from-out (c .before .before .before)) .pages-of .ensures .1, (pages-of-from-out (c .before .before .before)) .pages-of .ensures .2))
+    let u = c .before .before in
+    let p = start (paged u .before) .pre in
+    let page = paged u .pages-of .ensures in
+    ((p .0 .0, p .0 .1, simp (length-take, length-drop) (omega (arith, p .1, u .before .before, u .before .before .before)), omega (arith, page .0)), (page .1, page .2))
 
 returns : tie.Need-returns
 returns c =
-    let s = c .before .before .before .before .before .before .before .before .before .before .before .before .before .before .before .before .before in
+    let u = c .before .before .before .before .before in
+    let s = start (paged u .before) in
     let f = s .args in
     let g = parametersOf (f .g .group) in
-    let page = (pages-of-from-out2 (c .before)) .pages-of in
+    let fed = u .update .ensures _ (u .before .new .ensures) in
+    let page = paged u .pages-of in
     let e = pairs-back (page .result) 512 (f .s .rows) (f .s .n) (516 + 8 * (f .s .rows * f .s .n) - 516) (newMatrix g (f .s) (now (f .draws))) (omega arith) (page .ensures .2) in
-    more _ _ _ _ _ _ (shift-start g (f .s) (now (f .draws)) (s .pre .0 .1) _ e) (c .before .before .before .before .before .before .before .put-front .ensures) (c .before .before .write-shift-proof .ensures)
+    more _ _ _ _ _ _ (shift-start g (f .s) (now (f .draws)) (s .pre .0 .1) _ e) (u .before .before .before .before .put-front .ensures) (c .before .before .write-shift-proof .ensures _ fed)
     ∙ ap (λ (x : List ℕ). written x (now (f .out))) (shift-joined g (f .s) (now (f .draws)) (s .pre .0 .1) (now (f .label)) _ e)
 
 pub write-shift-spec : {M : Type 1} → statement M
 write-shift-spec =
     tie.close
-    (tie.spec (λ c. omega (arith, few c)) (λ c κs. c .before .before .before .before .before .pre .0 .1) (λ c. omega (arith, few (c .before)))
+    (tie.spec (λ c. omega (arith, few c)) (λ c κs. start c .pre .0 .1) (λ c. omega (arith, few (c .before)))
     (λ c. omega (arith, few (c .before))) (λ c. omega arith) (λ c. omega (arith, c .before .before .pages-of .ensures .0))
     (λ c. omega (arith, few (c .before .before .before), c .before .before .pages-of .ensures .0))
-    (λ c κs. simp (length-take, length-drop) (omega (arith, c .before .before .before .before .before .before .before .before .before .pre .1)))
-    (λ c. omega (arith, few (c .before .before .before .before .before .before .before)))
-    (λ c. omega (arith, few (c .before .before .before .before .before .before .before)))
-    (λ c. omega (arith, c .before .before .before .before .before .before .before .before .before .before .before .before .pre .1, c, c .before))
-    (λ c. omega (arith, c .before .before .before .before .before .before .before .before .before .before .before .before .pre .1, c, c .before))
-    (λ c. omega (arith, c .before .before .before .before .before .before .before .before .before .before .before .before .pre .1, c, c .before))
+    (λ c κs. simp (length-take, length-drop) (omega (arith, start (c .before .before .before .before) .pre .1)))
+    (λ c κs. search needs) (λ c κs. search needs) (λ c. omega (arith, few (paged c .before)))
+    (λ c. omega (arith, few (paged c .before)))
+    (λ c. omega (arith, start (paged c .before) .pre .1, c .before .before, c .before .before .before))
+    (λ c. omega (arith, start (paged c .before) .pre .1, c .before .before, c .before .before .before))
+    (λ c. omega (arith, start (paged c .before) .pre .1, c .before .before, c .before .before .before))
     (λ c. search needs) write-shift-proof-requires (λ c. search needs) returns)

@@ -6,31 +6,18 @@ use Rattle.boards.proofs.header.write_header.Tie as tie
 
 returns : tie.Need-returns
 returns c =
-    more _ _ _ _ _ _ refl (more _ _ _ _ _ _ refl (more _ _ _ _ _ _ refl (more _ _ _ _ _ _ refl (c .before .before .before .before .before .before .before .before .before .before .before .before .before .before .before .before .before .before .put-two .ensures) (c .before .before .before .before .before .before .before .before .before .before .before .before .before .before .put-byte .ensures)) (c .before .before .before .before .before .before .before .before .before .before .put-number2 .ensures)) (c .before .before .before .before .before .before .put-group .ensures)) (c .before .before .put-bytes .ensures)
-    ∙ rw (c .before .before .before .before .before .before .before .before .before .before .before .before .before .before .before .before .before .before .before .before .before .low .ensures, c .before .before .before .before .before .before .before .before .before .before .before .before .before .before .before .before .before .before .before .before .low16 .ensures)
+    let label = c .before .before in
+    let group = label .before .before .before .before in
+    let k = group .before .before .before .before in
+    let n = k .before .before .before .before in
+    let mark = n .before .before .before .before in
+    more _ _ _ _ _ _ refl (more _ _ _ _ _ _ refl (more _ _ _ _ _ _ refl (more _ _ _ _ _ _ refl (mark .put-two .ensures) (n .put-byte .ensures)) (k .put-number2 .ensures)) (group .put-group .ensures)) (label .put-bytes .ensures)
+    ∙ rw (mark .before .before .before .low .ensures, mark .before .before .low16 .ensures)
 
 pub write-header-spec : {M : Type 1} → statement M
 write-header-spec =
     tie.close
-    (tie.spec
-    (λ c κs. search needs)
-    (λ c κs. search needs)
-    (λ c κs. search needs)
-    (λ c. search needs)
-    (λ c. search needs)
-    (λ c. search needs)
-    (λ c κs. search needs)
-    (λ c. search needs)
-    (λ c. search needs)
-    (λ c. search needs)
-    (λ c κs. search needs)
-    (λ c. search needs)
-    (λ c. search needs)
-    (λ c. search needs)
-    (λ c κs. search needs)
-    (λ c. search needs)
-    (λ c. search needs)
-    (λ c. search needs)
-    (λ c κs. search needs)
-    (λ c. search needs)
-    returns)
+    (tie.spec (λ c κs. search needs) (λ c κs. search needs) (λ c κs. search needs) (λ c. search needs) (λ c. search needs) (λ c. search needs)
+    (λ c κs. search needs) (λ c. search needs) (λ c. search needs) (λ c. search needs) (λ c κs. search needs) (λ c. search needs)
+    (λ c. search needs) (λ c. search needs) (λ c κs. search needs) (λ c. search needs) (λ c. search needs) (λ c. search needs)
+    (λ c κs. search needs) (λ c. search needs) returns)

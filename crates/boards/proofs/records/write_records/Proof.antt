@@ -5,12 +5,11 @@ use lib.ListN.{length, length-take, length-drop}
 use denote.Ref.{now}
 use Rattle.numbers.specs.Below.{concatBelow}
 use Rattle.sha256.specs.Message.{sha256}
-use Rattle.group.specs.Elements.{parametersOf}
 use Rattle.jobs.specs.Board.{recordBytes}
 use Rattle.output.specs.Written.{written}
 use Rattle.output.proofs.Laws.{none, block-more}
 use Rattle.count.specs.State.{listOf}
-use Rattle.boards.specs.Parts.{boardJob}
+use Rattle.boards.specs.Parts.{boardJob, headGroup}
 use Rattle.jobs.proofs.Lengths.{length-record}
 use Rattle.statements.proofs.Lines.{row-below}
 use borrow.Author.Needs.{needs}
@@ -18,12 +17,12 @@ use Rattle.boards.proofs.records.write_records.Statement.{statement}
 use Rattle.boards.proofs.records.write_records.Tie as tie
 
 abbrev Inv-loop : tie.InvT-loop
-Inv-loop out₀ label g size rankings draws plan k width b₀ out b =
+Inv-loop out₀ label head rankings draws plan k width b₀ out b =
     (b ≤ k) × (length out ≡ length out₀)
-    × (out ≡ written (concatBelow b (recordBytes sha256 (boardJob size (parametersOf (g .group)) label rankings draws) (parametersOf (g .group)) (listOf (plan .before)) (plan .a) (plan .m))) out₀)
+    × (out ≡ written (concatBelow b (recordBytes sha256 (boardJob head label rankings draws) (headGroup head) (listOf (plan .before)) (plan .a) (plan .m))) out₀)
 
 abbrev μ-loop : tie.MeasureT-loop
-μ-loop out₀ label g size rankings draws plan k width b₀ out b = k - b
+μ-loop out₀ label head rankings draws plan k width b₀ out b = k - b
 
 abbrev start-from-record-length : tie.After-record-length Inv-loop μ-loop → tie.Start Inv-loop μ-loop
 start-from-record-length c = c .before .before .before .before .before
@@ -40,7 +39,7 @@ within : (c : tie.In-loop Inv-loop μ-loop) → c .before .loop .b * c .before .
 within c =
     let s = (start-from-record-length (c .before .before)) in
     let r = c .before .before .record-length in
-    omega (arith, row-below (s .args .size .k) (r .result) (c .before .loop .b) (omega arith), ap (λ (x : ℕ). s .args .size .k * x) (r .ensures .0), s .pre .2)
+    omega (arith, row-below (s .args .head .k) (r .result) (c .before .loop .b) (omega arith), ap (λ (x : ℕ). s .args .head .k * x) (r .ensures .0), s .pre .2)
 
 write-record-requires : tie.Need-write-record-requires Inv-loop μ-loop
 write-record-requires c κs =
@@ -52,8 +51,8 @@ loop-again c =
     let l = c .before .before .before .before .before .loop in
     let s = (start-from-out (c .before)) in
     let f = s .args in
-    let g = parametersOf (f .g .group) in
-    let job = boardJob (f .size) g (now (f .label)) (now (f .rankings)) (now (f .draws)) in
+    let g = headGroup (f .head) in
+    let job = boardJob (f .head) (now (f .label)) (now (f .rankings)) (now (f .draws)) in
     let r = c .before .before .before .before .before .before .record-length in (
       omega arith,
       search needs,
@@ -64,7 +63,7 @@ loop-again c =
 returns : tie.Need-returns Inv-loop μ-loop
 returns c =
     let l = c .before .loop in
-    let e : l .b ≡ (start-from-record-length (c .before .before)) .args .size .k = omega arith in
+    let e : l .b ≡ (start-from-record-length (c .before .before)) .args .head .k = omega arith in
     l .inv .2 ∙ rw e
 
 pub write-records-spec : {M : Type 1} → statement M

@@ -8,26 +8,26 @@ use borrow.Author.Needs.{needs}
 use Rattle.boards.proofs.rounds.write_board.Statement.{statement}
 use Rattle.boards.proofs.rounds.write_board.Tie as tie
 
-abbrev start-from-group : tie.After-group → tie.Start
-start-from-group c = c .before .before .before .before .before
-
-abbrev start-from-write-rounds-arg : tie.After-write-rounds-arg → tie.Start
-start-from-write-rounds-arg c = start-from-group (c .before .before .before .before .before)
+abbrev start : tie.After-write-rounds-arg → tie.Start
+start c = c .before .before .before .before .before .before .before .before .before
 
 write-rounds-requires : tie.Need-write-rounds-requires
 write-rounds-requires c κs =
-    let p = (start-from-write-rounds-arg c) .pre in
+    let p = start c .pre in
     (p .0 .0, p .0 .1, p .0 .2, simp (length-take, length-drop) (omega (arith, p .1, c .before, c .before .before)))
 
 returns : tie.Need-returns
-returns c = let p = (start-from-write-rounds-arg (c .before .before .before)) .pre in more _ _ _ _ _ _ (length-header (now ((start-from-write-rounds-arg (c .before .before .before)) .args .label)) (p .1 .0)) (c .before .before .before .before .before .before .write-header .ensures) (c .before .before .write-rounds .ensures)
+returns c =
+    let w = c .before .before .before in
+    let s = start w in
+    more _ _ _ _ _ _ (length-header (now (s .args .label)) (s .pre .1 .0)) (w .before .before .before .write-header .ensures) (c .before .before .write-rounds .ensures)
 
 pub write-board-spec : {M : Type 1} → statement M
 write-board-spec =
     tie.close
     (tie.spec
-    (λ c κs. let p = c .before .before .before .before .before .before .pre in (omega (arith, p .0 .1 .n-high), omega (arith, p .0 .1 .K-high), p .1 .0, p .1 .1))
-    (λ c. omega (arith, c .before .before .before .before .before .before .before .before .before .pre .1, c, c .before))
-    (λ c. omega (arith, c .before .before .before .before .before .before .before .before .before .pre .1, c, c .before))
-    (λ c. omega (arith, c .before .before .before .before .before .before .before .before .before .pre .1, c, c .before)) write-rounds-requires
+    (λ c κs. let p = c .before .before .before .before .before .pre in (omega (arith, p .0 .1 .n-high), omega (arith, p .0 .1 .K-high), p .1 .0, p .1 .1))
+    (λ c. omega (arith, c .before .before .before .before .before .before .before .before .pre .1, c, c .before))
+    (λ c. omega (arith, c .before .before .before .before .before .before .before .before .pre .1, c, c .before))
+    (λ c. omega (arith, c .before .before .before .before .before .before .before .before .pre .1, c, c .before)) write-rounds-requires
     (λ c. search needs) returns)

@@ -16,10 +16,13 @@ name c = within (now (c .before .before .before .before .before .args .s)) _ _ _
 returns-6 : tie.Need-returns-6
 unfolding FrameReads
 returns-6 c =
-    let s = now (c .before .before .before .before .before .before .before .before .before .before .before .before .before .before .before .before .before .before .args .s) in
-    let a = within s _ _ _ (sym (c .before .before .before .before .before .before .before .before .before .before .before .before .before .before .before .before .piece-at .ensures) ∙ c .before .before .before .before .before .before .before .before .before .before .before .before .before .before .name .given .1) in
-    let l = within s _ _ _ (sym (c .before .before .before .before .before .before .before .before .before .before .before .piece-at2 .ensures) ∙ c .before .before .before .before .before .before .before .before .before .label .given .1) in
-    let r = within s _ _ _ (sym (c .before .before .before .before .before .before .before .piece-at3 .ensures) ∙ c .before .before .before .before .before .rankings .given .1) in
+    let third = c .before .before .before .before in
+    let second = third .before .before .before .before in
+    let first = second .before .before .before .before .before in
+    let s = now (first .before .before .before .before .before .args .s) in
+    let a = within s _ _ _ (sym (first .before .before .before .piece-at .ensures) ∙ first .before .name .given .1) in
+    let l = within s _ _ _ (sym (second .before .before .before .piece-at2 .ensures) ∙ second .before .label .given .1) in
+    let r = within s _ _ _ (sym (third .before .before .before .piece-at3 .ensures) ∙ third .before .rankings .given .1) in
     let d = within s _ _ _ (sym (c .before .before .before .piece-at4 .ensures) ∙ c .before .draws .given .1) in
     record { named = omega arith; labelled = omega arith; ranked = omega arith; drawn = omega arith; ended = omega arith }
 

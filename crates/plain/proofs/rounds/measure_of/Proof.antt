@@ -1,8 +1,7 @@
 use Prim.Native.Nat.{_+_, _-_, _*_, _≤_}
 use mathlib.Core.Path.{_≡_, refl, _∙_}
 use native.Mathlib.Omega.{arith}
-use Rattle.rules.specs.Records.{roundAt}
-use Rattle.jobs.specs.Job.{roundDraws}
+use Rattle.jobs.specs.Job.{roundDraws, roundAt}
 use Rattle.plain.proofs.Counted.{draws-more, length-more, at-most}
 use borrow.Author.Needs.{needs}
 use Rattle.plain.proofs.rounds.measure_of.Statement.{statement}

@@ -13,25 +13,26 @@ use Rattle.output.specs.Written.{written}
 use Rattle.jobs.specs.Prover.{branchBytes}
 use Rattle.proving.specs.Plans.{falseTs, falseRs}
 use Rattle.proving.proofs.Stating.{stated-as}
-use Rattle.proving.proofs.Branches.{branch-none, branch-more, fed-none, fed-more, length-false}
+use Rattle.jobs.proofs.Lengths.{length-false}
+use Rattle.proving.proofs.Branches.{branch-none, branch-more, fed-none, fed-more}
 use borrow.Author.Needs.{needs}
 use Rattle.proving.proofs.branch.false_branch.Statement.{statement}
 use Rattle.proving.proofs.branch.false_branch.Tie as tie
 
 abbrev Inv-loop : tie.InvT-loop
-Inv-loop out₀ g page inverses l draws at group n claim statements e k₀ i₀ out k i =
+Inv-loop out₀ g page inverses draws group claim statements l at e k₀ i₀ out k i =
     (i ≤ statements) × (length out ≡ length out₀)
-    × ((o : List ℕ) → out₀ ≡ written (bytes4 e) o → out ≡ written (branchBytes e i (falseTs (parametersOf (g .group)) (claimOf page (parametersOf (g .group)) n claim l) draws at) (falseRs draws at)) o)
-    × ((m : List ℕ) → Fed k₀ m → Fed k (m ++ concatBelow i (falseTs (parametersOf (g .group)) (claimOf page (parametersOf (g .group)) n claim l) draws at)))
+    × ((o : List ℕ) → out₀ ≡ written (bytes4 e) o → out ≡ written (branchBytes e i (falseTs (parametersOf (g .group)) (claimOf page (parametersOf (g .group)) claim l) draws at) (falseRs draws at)) o)
+    × ((m : List ℕ) → Fed k₀ m → Fed k (m ++ concatBelow i (falseTs (parametersOf (g .group)) (claimOf page (parametersOf (g .group)) claim l) draws at)))
 
 abbrev μ-loop : tie.MeasureT-loop
-μ-loop out₀ g page inverses l draws at group n claim statements e k₀ i₀ out k i = statements - i
+μ-loop out₀ g page inverses draws group claim statements l at e k₀ i₀ out k i = statements - i
 
 abbrev start-from-group : tie.After-group Inv-loop μ-loop → tie.Start Inv-loop μ-loop
 start-from-group c = c .before .before .before .before .before
 
 abbrev start-from-slice-known2 : tie.After-slice-known2 Inv-loop μ-loop → tie.Start Inv-loop μ-loop
-start-from-slice-known2 c = start-from-group (c .before .before .before .before .before)
+start-from-slice-known2 c = start-from-group (c .before .before .before .before .before .before)
 
 abbrev start-from-put-false-arg : tie.After-put-false-arg Inv-loop μ-loop → tie.Start Inv-loop μ-loop
 start-from-put-false-arg c = start-from-slice-known2 (c .before .before .before .before .before)
@@ -44,9 +45,9 @@ loop-again c =
     let l = c .before .before .before .before .before .before .before .loop in
     let f = (start-from-put-false-arg (c .before .before .before)) .args in
     let g = parametersOf (f .g .group) in
-    let t = falseTs g (claimOf (now (f .page)) g (f .plan .n) (f .plan .claim) (f .l)) (now (f .draws)) (f .at) in
-    let r = falseRs (now (f .draws)) (f .at) in
-    let p = stated-as _ _ _ _ _ g _ (claimOf (now (f .page)) g (f .plan .n) (f .plan .claim) (f .l) (l .i)) (getD (now (f .draws)) (f .at) 0) (r (l .i)) (c .before .before .before .before .before .claimed .ensures) (c .before .before .put-false .ensures) in (
+    let t = falseTs g (claimOf (now (f .page)) g (f .branch .plan .claim) (f .branch .l)) (now (f .draws)) (f .branch .at) in
+    let r = falseRs (now (f .draws)) (f .branch .at) in
+    let p = stated-as _ _ _ _ _ g _ (claimOf (now (f .page)) g (f .branch .plan .claim) (f .branch .l) (l .i)) (getD (now (f .draws)) (f .branch .at) 0) (r (l .i)) (c .before .before .before .before .before .claimed .ensures) (c .before .before .put-false .ensures) in (
       omega arith,
       search needs,
       λ o h. branch-more _ t r (λ i. length-false _ _ _ _) (l .i) _ o (l .out) _ refl (l .inv .2 o h) p,
@@ -56,7 +57,7 @@ loop-again c =
 returns : tie.Need-returns Inv-loop μ-loop
 returns c =
     let l = c .before .loop in
-    let e : l .i ≡ (start-from-slice-known2 (c .before .before)) .args .plan .statements = omega arith in
+    let e : l .i ≡ (start-from-slice-known2 (c .before .before)) .args .branch .plan .statements = omega arith in
     rw (← e) (record { wrote = l .inv .2 _ (c .before .before .before .before .put-number4 .ensures); fed = l .inv .3 })
 
 claimed-requires : tie.Need-claimed-requires Inv-loop μ-loop

@@ -11,7 +11,8 @@ use Rattle.output.specs.Written.{written}
 use Rattle.group.specs.Elements.{parametersOf}
 use Rattle.jobs.specs.Prover.{branchBytes}
 use Rattle.proving.specs.Plans.{trueTs, trueRs}
-use Rattle.proving.proofs.Branches.{branch-none, branch-more, fed-none, fed-more, length-true}
+use Rattle.jobs.proofs.Lengths.{length-true}
+use Rattle.proving.proofs.Branches.{branch-none, branch-more, fed-none, fed-more}
 use borrow.Author.Needs.{needs}
 use Rattle.proving.proofs.branch.true_branch.Statement.{statement}
 use Rattle.proving.proofs.branch.true_branch.Tie as tie
@@ -31,8 +32,9 @@ loop-holds c = (omega arith, refl, λ o h. h ∙ branch-none _ _ _ o, λ m h. fe
 loop-again : tie.Need-loop-again Inv-loop μ-loop
 loop-again c =
     let p = c .before .before .put-true in
-    let l = c .before .before .before .before .before .before .loop in
-    let f = c .before .before .before .before .before .before .before .before .before .before .before .before .before .args in
+    let i = c .before .before .before .before .before in
+    let l = i .before .loop in
+    let f = i .before .before .before .before .before .before .before .before .args in
     let t = trueTs (parametersOf (f .g)) (now (f .draws)) (f .at) in
     let r = trueRs (now (f .draws)) (f .at) in (
       omega arith,

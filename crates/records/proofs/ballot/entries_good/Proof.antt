@@ -2,7 +2,6 @@ use denote.Ref.{now}
 use Prim.Native.Nat.{_*_, _-_, _≤_}
 use mathlib.Core.Path.{_≡_, sym, _∙_}
 use mathlib.Core.Bool.{true}
-use native.Mathlib.Nat.{mod-lt, div-lt-iff-lt-mul}
 use native.Mathlib.Omega.{arith}
 use borrow.Author.Needs.{needs}
 use borrow.Author.Tests.{not-true, not-false}
@@ -21,19 +20,7 @@ abbrev μ-loop : tie.MeasureT-loop
 
 proof-good-requires : tie.Need-proof-good-requires Inv-loop μ-loop
 unfolding Within
-proof-good-requires c κs =
-    let pre = c .before .before .before .before .pre in (
-      pre .0,
-      (
-        omega arith,
-        λ l i hl hi. (
-          div-lt-iff-lt-mul {k = c .before .before .before .before .args .h .n} (omega (arith, pre .0 .low)) .1
-              (omega arith),
-          mod-lt _ (omega (arith, pre .0 .low)),
-          omega arith,
-        ),
-      ),
-    )
+proof-good-requires c κs = (c .before .before .before .before .pre .0, (omega arith, λ l i hl hi. omega arith))
 
 returns : tie.Need-returns Inv-loop μ-loop
 unfolding claimOf
@@ -62,6 +49,6 @@ entries-good-spec =
     tie.close
     (tie.spec Inv-loop μ-loop (λ c. omega (arith, c .before .good)) (λ c. omega (arith, c .before .good)) (λ c. omega (arith, c .before .good))
     (λ c. omega (arith, c .before .good)) (λ c. omega (arith, c .before .good)) (λ c. (omega arith, all-none _))
-    (λ c. omega (arith, c .before .before .before .pre .0 .low)) (λ c. omega (arith, c .before .before .before .pre .0 .low)) (λ c. search needs)
-    (λ c. omega (arith, c .before .before .before .before .good)) (λ c. omega (arith, c .before .before .before .before .good)) proof-good-requires
-    returns (λ c. omega arith) (λ c. omega arith) loop-again returns-2)
+    (λ c. omega (arith, c .before .before .before .good)) (λ c. omega (arith, c .before .before .before .good))
+    (λ c. omega (arith, c .before .before .before .good)) (λ c. search needs) (λ c. omega (arith, c .before .before .before .before .good))
+    (λ c. omega (arith, c .before .before .before .before .good)) proof-good-requires returns (λ c. omega arith) (λ c. omega arith) loop-again returns-2)

@@ -1,14 +1,19 @@
 use denote.Ref.{now}
-use Prim.Native.Nat.{_+_, _-_, _≤_}
-use mathlib.Core.Path.{_≡_, sym, _∙_}
+use Prim.Native.Nat.{ℕ, _+_, _*_, _-_, _≤_, _<_}
+use mathlib.Core.Path.{_≡_, sym, ap, _∙_}
+use mathlib.Core.List.{[]}
 use mathlib.Core.Bool.{true}
 use native.Mathlib.Omega.{arith}
 use borrow.Author.Needs.{needs}
 use borrow.Author.Tests.{not-true, not-false}
 use Rattle.numbers.specs.Below.{allBelow}
 use Rattle.numbers.proofs.Tests.{all-none, all-more, all-fails, all-end}
-use Rattle.statements.specs.Claims.{claimOf, Within}
-use Rattle.records.specs.Parts.{lineGood}
+use Rattle.group.specs.Elements.{parametersOf}
+use Rattle.rules.specs.Proofs.{Statement}
+use Rattle.rules.proofs.Sizes.{cells}
+use Rattle.statements.proofs.Lines.{line-fits}
+use Rattle.statements.proofs.Places.{line-claimed, line-stands}
+use Rattle.records.specs.Parts.{proofAt, lineGood}
 use Rattle.records.proofs.ballot.lines_good.Statement.{statement}
 use Rattle.records.proofs.ballot.lines_good.Tie as tie
 
@@ -18,26 +23,53 @@ Inv-loop board at head n no-inverses first count t₀ t = (t ≤ n + n) × (allB
 abbrev μ-loop : tie.MeasureT-loop
 μ-loop board at head n no-inverses first count t₀ t = n + n - t
 
+-- the line is within the matrix, which is small
+small : (c : tie.After-line-of Inv-loop μ-loop) →
+    let n = c .before .before .before .before .args .h .n in
+    let line = c .line-of .result in (line .start < n * n) × (line .stride ≤ n * n) × (n * n ≤ 64)
+small c =
+    let start = c .before .before .before .before in
+    let w = line-fits (start .args .h .n) (c .before .before .loop .t) (omega arith) in
+    (rw (c .line-of .ensures .0) (w .0), rw (c .line-of .ensures .1) (w .1), cells (start .args .h .n) (start .pre .0 .high))
+
 proof-good-requires : tie.Need-proof-good-requires Inv-loop μ-loop
-unfolding Within
 proof-good-requires c κs =
-    let pre = c .before .before .before .before .pre in
-    (pre .0, (omega arith, λ l i hl hi. (omega arith, omega arith)))
+    let line = c .before .before .before in
+    let start = line .before .before .before .before in
+    let a = start .args in (
+      start .pre .0,
+      (
+        omega arith,
+        λ l i hl hi.
+            rw (line .line-of .ensures .0, line .line-of .ensures .1)
+            (line-stands (now (a .board)) (parametersOf (a .h .setup .group)) (a .h .n) (a .at) [] (omega arith) l i (line .before .before .loop .t) (omega arith)),
+      ),
+    )
+
+-- what a proof's check says of its line
+checked : (c : tie.After-proof-good Inv-loop μ-loop) →
+    let a = c .before .before .before .before .before .before .before .before .args in
+    c .proof-good .result ≡ lineGood (now (a .board)) (a .h) (a .at) (c .before .before .before .before .before .before .loop .t)
+checked c =
+    let line = c .before .before .before .before in
+    let a = line .before .before .before .before .args in
+    let t = line .before .before .loop .t in
+    c .proof-good .ensures
+    ∙ ap (λ (f : ℕ → ℕ → Statement). proofAt (now (a .board)) (a .h) (a .at + 4 + 40 * (a .h .n * a .h .n) + 16 * t) 1 1 f)
+    (rw (line .line-of .ensures .0, line .line-of .ensures .1) (line-claimed (now (a .board)) (parametersOf (a .h .setup .group)) (a .h .n) (a .at) t))
 
 returns : tie.Need-returns Inv-loop μ-loop
-unfolding claimOf
 returns c =
-    let a = c .before .before .before .before .before .before .args in
-    sym (all-fails (a .h .n + a .h .n) (c .before .before .before .before .loop .t) (lineGood (now (a .board)) (a .h) (a .at)) (omega arith)
-    (sym (c .before .proof-good .ensures) ∙ not-true _ (c .if1 .taken)))
+    let a = c .before .before .before .before .before .before .before .before .before .args in
+    sym (all-fails (a .h .n + a .h .n) (c .before .before .before .before .before .before .before .loop .t) (lineGood (now (a .board)) (a .h) (a .at)) (omega arith)
+    (sym (checked (c .before)) ∙ not-true _ (c .if1 .taken)))
 
 loop-again : tie.Need-loop-again Inv-loop μ-loop
-unfolding claimOf
 loop-again c =
-    let a = c .before .before .before .before .before .before .args in (
+    let a = c .before .before .before .before .before .before .before .before .before .args in (
       omega arith,
-      all-more _ (lineGood (now (a .board)) (a .h) (a .at)) (c .before .before .before .before .loop .inv .1)
-          (sym (c .before .proof-good .ensures) ∙ not-false _ (c .if1 .left)),
+      all-more _ (lineGood (now (a .board)) (a .h) (a .at)) (c .before .before .before .before .before .before .before .loop .inv .1)
+          (sym (checked (c .before)) ∙ not-false _ (c .if1 .left)),
     )
 
 returns-2 : tie.Need-returns-2 Inv-loop μ-loop
@@ -50,6 +82,9 @@ pub lines-good-spec : {M : Type 1} → statement M
 lines-good-spec =
     tie.close
     (tie.spec Inv-loop μ-loop (λ c. omega (arith, c .before .good)) (λ c. omega (arith, c .before .good)) (λ c. omega (arith, c .before .good))
-    (λ c. omega (arith, c .before .good)) (λ c. omega (arith, c .before .good)) (λ c. (omega arith, all-none _)) (λ c. search needs)
-    (λ c. omega (arith, c .before .before .before .before .good)) (λ c. omega (arith, c .before .before .before .before .good)) proof-good-requires
+    (λ c. omega (arith, c .before .good)) (λ c. omega (arith, c .before .good)) (λ c. (omega arith, all-none _))
+    (λ c κs. (omega arith, omega (arith, cells _ (c .before .before .before .pre .0 .high)))) (λ c. omega (arith, c .before .before .before .before .good))
+    (λ c. omega (arith, small (c .before))) (λ c. omega (arith, small (c .before), c .before .before .before .before .before .good))
+    (λ c. omega (arith, small (c .before .before))) (λ c. search needs) (λ c. omega (arith, c .before .before .before .before .before .before .before .good))
+    (λ c. omega (arith, c .before .before .before .before .before .before .before .good)) proof-good-requires
     returns (λ c. omega arith) (λ c. omega arith) loop-again returns-2)

@@ -4,38 +4,40 @@ use mathlib.Core.Path.{sym, _∙_}
 use native.Mathlib.Omega.{arith}
 use lib.ListN.{getD}
 use borrow.Author.Needs.{needs}
-use borrow.Author.Tests.{not-true, not-false}
 use Rattle.rules.specs.Records.{RT, sheetLength}
-use Rattle.records.proofs.Framing.{frame-short, frame-mark, frame-number, frame-sound}
+use Rattle.records.specs.declared.Fault.the-variants.{Sound}
+use Rattle.records.specs.Faults.{Begun}
+use Rattle.records.proofs.Framing.{frame-begun, frame-number, frame-sound}
 use Rattle.records.proofs.frames.sheet_frame.Statement.{statement}
 use Rattle.records.proofs.frames.sheet_frame.Tie as tie
 
+begun : (c : tie.After-enum-told) → let a = c .before .before .before .before .before .args in Begun (now (a .board)) (a .at) (sheetLength (a .n)) RT Sound
+begun c = rw (c .before .before .before .sheet-length .ensures .0, c .enum-told .given .1) at (c .before .before .begins .ensures)
+
 returns : tie.Need-returns
 returns c =
-    let a = c .before .before .before .args in
-    frame-short (now (a .board)) (a .at) (sheetLength (a .n)) (RT) (getD (now (a .board)) (a .at + 2) 0) (a .round) (omega arith)
+    let a = c .before .before .before .before .before .before .args in
+    frame-begun (now (a .board)) (a .at) (sheetLength (a .n)) RT (getD (now (a .board)) (a .at + 2) 0) (a .round) _
+    (rw (c .before .before .before .before .sheet-length .ensures .0, c .before .begun .given .1) at (c .before .before .before .begins .ensures))
+
+byte-requires : tie.Need-byte-requires
+unfolding Begun
+byte-requires c κs = omega (arith, begun c .0)
 
 returns-2 : tie.Need-returns-2
 returns-2 c =
-    let a = c .before .before .before .before .before .args in
-    frame-mark (now (a .board)) (a .at) (sheetLength (a .n)) (RT) (getD (now (a .board)) (a .at + 2) 0) (a .round) (omega arith)
-    (sym (c .before .has-mark .ensures) ∙ not-true _ (c .if2 .taken))
+    let a = c .before .before .before .before .before .before .before .args in
+    frame-number (now (a .board)) (a .at) (sheetLength (a .n)) RT (getD (now (a .board)) (a .at + 2) 0) (a .round) (begun (c .before .before))
+    (λ e. c .if1 .taken (c .before .byte .ensures ∙ e))
 
 returns-3 : tie.Need-returns-3
 returns-3 c =
     let a = c .before .before .before .before .before .before .before .args in
-    frame-number (now (a .board)) (a .at) (sheetLength (a .n)) (RT) (getD (now (a .board)) (a .at + 2) 0) (a .round) (omega arith)
-    (sym (c .before .before .before .has-mark .ensures) ∙ not-false _ (c .before .before .if2 .left))
-    (λ e. c .if3 .taken (c .before .byte .ensures ∙ e))
-
-returns-4 : tie.Need-returns-4
-returns-4 c =
-    let a = c .before .before .before .before .before .before .before .args in
-    frame-sound (now (a .board)) (a .at) (sheetLength (a .n)) (RT) (getD (now (a .board)) (a .at + 2) 0) (a .round) (omega arith)
-    (sym (c .before .before .before .has-mark .ensures) ∙ not-false _ (c .before .before .if2 .left)) (sym (c .before .byte .ensures) ∙ c .if3 .left)
+    frame-sound (now (a .board)) (a .at) (sheetLength (a .n)) RT (getD (now (a .board)) (a .at + 2) 0) (a .round) (begun (c .before .before))
+    (sym (c .before .byte .ensures) ∙ c .if1 .left)
 
 pub sheet-frame-spec : {M : Type 1} → statement M
 sheet-frame-spec =
     tie.close
-    (tie.spec (λ c. search needs) (λ c κs. search needs) returns (λ c κs. search needs) returns-2 (λ c. search needs)
-    (λ c κs. search needs) returns-3 returns-4)
+    (tie.spec (λ c κs. search needs) (λ c κs. search needs) (λ c. search needs) returns (λ c. search needs) (λ c. search needs) byte-requires
+    returns-2 returns-3)

@@ -7,20 +7,23 @@ use borrow.Author.Tests.{not-true, not-false}
 use Rattle.sha256.specs.Message.{sha256}
 use Rattle.group.specs.Elements.{parametersOf}
 use Rattle.rules.specs.Bytes.{part}
-use Rattle.rules.specs.Group.{sizes, orders, generators}
-use Rattle.rules.specs.Check.{counterField}
+use Rattle.rules.specs.Group.{orders, generators}
+use Rattle.rules.specs.Header.{sizes, counterField}
 use Rattle.parameters.proofs.Rules.{orders-positive, sizes-bounds}
 use Rattle.records.specs.Heads.{HeaderReads}
 use Rattle.records.proofs.HeaderTable.{Shown, too-short, wrong-mark, wrong-sizes, wrong-orders, wrong-generators, sound-header, header-is}
 use Rattle.records.proofs.header.read_header.Statement.{statement}
 use Rattle.records.proofs.header.read_header.Tie as tie
 
-abbrev shown-from-generators-good-arg : tie.After-generators-good-arg → tie.After-shown
-shown-from-generators-good-arg c = c .before .before .before .before .before
+abbrev start : tie.After-shown → tie.Start
+start c = c .before .before .before .before .before .before .before .before
+
+abbrev shown-before : tie.After-generators-good-arg → tie.After-shown
+shown-before c = c .before .before .before .before .before
 
 -- what is read, and what the tests passed so far say
 read : (c : tie.After-shown) →
-    Shown (now (c .before .before .before .before .before .before .before .args .board)) (c .before .before .byte .result) (c .before .number .result)
+    let a = start c .args in Shown (a .model) (now (a .board)) (c .before .before .byte .result) (c .before .number .result)
     (parametersOf (c .shown .result))
 read c =
     record {
@@ -31,7 +34,8 @@ read c =
       group-is = c .shown .ensures;
     }
 
-sized : (c : tie.Else3) → sizes (c .before .before .before .before .byte .result) (c .before .before .before .number .result) ≡ true
+sized : (c : tie.Else3) →
+    sizes (start (c .before .before) .args .model) (c .before .before .before .before .byte .result) (c .before .before .before .number .result) ≡ true
 sized c = sym (c .before .sizes-good .ensures) ∙ not-false _ (c .if3 .left)
 
 ordered : (c : tie.Else4) →
@@ -40,19 +44,19 @@ ordered : (c : tie.Else4) →
 ordered c = sym (c .before .orders-good .ensures) ∙ not-false _ (c .if4 .left)
 
 generated : (c : tie.After-generators-good) →
-    let s = now (c .before .before .before .before .before .before .before .before .before .before .before .before .before .before .args .board) in
-    c .generators-good .result ≡ generators sha256 (part s 22 32) (counterField s)
-    (parametersOf ((shown-from-generators-good-arg (c .before .before)) .shown .result))
+    let w = shown-before (c .before .before) in
+    let s = now (start w .args .board) in c .generators-good .result ≡ generators sha256 (part s 22 32) (counterField s) (parametersOf (w .shown .result))
 generated c = c .generators-good .ensures
 
 returns : tie.Need-returns
 unfolding HeaderReads
-returns c = too-short (now (c .before .before .args .board)) (omega arith)
+returns c = let a = c .before .before .before .args in too-short (a .model) (now (a .board)) (omega arith)
 
 returns-2 : tie.Need-returns-2
 unfolding HeaderReads
 returns-2 c =
-    wrong-mark (now (c .before .before .before .before .args .board)) (omega arith) (sym (c .before .has-mark .ensures) ∙ not-true _ (c .if2 .taken))
+    let a = c .before .before .before .before .before .args in
+    wrong-mark (a .model) (now (a .board)) (omega arith) (sym (c .before .has-mark .ensures) ∙ not-true _ (c .if2 .taken))
 
 returns-3 : tie.Need-returns-3
 unfolding HeaderReads
@@ -67,17 +71,17 @@ returns-4 c =
 returns-5 : tie.Need-returns-5
 unfolding HeaderReads
 returns-5 c =
-    wrong-generators (read ((shown-from-generators-good-arg (c .before .before .before))))
+    wrong-generators (read (shown-before (c .before .before .before)))
     (sized (c .before .before .before .before .before .before)) (ordered (c .before .before .before .before))
     (sym (generated (c .before)) ∙ not-true _ (c .if5 .taken))
 
 returns-6 : tie.Need-returns-6
 unfolding HeaderReads
 returns-6 c =
-    let shown = read ((shown-from-generators-good-arg (c .before .before .before .before))) in
+    let w = shown-before (c .before .before .before .before) in
+    let shown = read w in
     let size = sized (c .before .before .before .before .before .before .before) in
-    let bounds = sizes-bounds (c .before .before .before .before .before .before .before .before .before .before .before .byte .result)
-    (c .before .before .before .before .before .before .before .before .before .before .number .result) size in (
+    let bounds = sizes-bounds (start w .args .model) (w .before .before .byte .result) (w .before .number .result) size in (
       sound-header shown size (ordered (c .before .before .before .before .before))
           (sym (generated (c .before .before)) ∙ not-false _ (c .before .if5 .left)),
       rw (c .new .ensures .0) (header-is shown),

@@ -1,5 +1,5 @@
 use borrow.Author.Needs.{needs}
-use Rattle.rules.specs.Check.{header}
+use Rattle.rules.specs.Header.{header}
 use Rattle.records.proofs.header.shown.Statement.{statement}
 use Rattle.records.proofs.header.shown.Tie as tie
 

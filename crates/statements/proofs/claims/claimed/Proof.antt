@@ -1,7 +1,5 @@
 use Prim.Native.Nat.{_-_}
-use native.Mathlib.Omega.{arith}
 use Rattle.statements.specs.Claims.{Within, claimOf}
-use Rattle.statements.proofs.Lines.{row-below}
 use borrow.Author.Needs.{needs}
 use Rattle.statements.proofs.claims.claimed.Statement.{statement}
 use Rattle.statements.proofs.claims.claimed.Tie as tie
@@ -9,10 +7,8 @@ use Rattle.statements.proofs.claims.claimed.Tie as tie
 claimed-entry-requires : tie.Need-claimed-entry-requires
 unfolding Within
 claimed-entry-requires c κs =
-    let a = c .before .before .before .before .before .args in
     let w = rw (c .before .claim .given .1) at (c .before .before .before .before .before .pre .1) in
-    let r = row-below (a .n) (a .n) _ (w .0) in
-    (c .before .before .before .before .before .pre .0, omega arith)
+    (c .before .before .before .before .before .pre .0, w)
 
 claimed-line-requires : tie.Need-claimed-line-requires
 unfolding Within

@@ -11,38 +11,40 @@ use Rattle.statements.proofs.ShiftClaims.{source-below, shift-zero, shi
 use Rattle.statements.proofs.claims.claimed_shift.Statement.{statement}
 use Rattle.statements.proofs.claims.claimed_shift.Tie as tie
 
-claimed-entry-requires : tie.Need-claimed-entry-requires
-claimed-entry-requires c κs =
+-- the pair in row l and column a is within the slice
+pair-fits : (c : tie.Then1) →
+    let a = c .before .before .before .args in (a .m .before + 4 + 8 * (a .l * a .m .n + a .m .a) + 8 ≤ length (now (a .s))) × (length (now (a .s)) < 2 ^ 64)
+pair-fits c =
     let a = c .before .before .before .args in
-    (c .before .before .before .pre .0, omega (arith, row-below (a .m .rows + 1) (a .n) (a .l) (omega arith)))
+    (omega (arith, row-below (a .m .rows + 1) (a .m .n) (a .l) (omega arith)), omega (arith, c .before .before .before .good))
 
 returns : tie.Need-returns
 returns c =
-    let a = c .before .before .before .before .args in
-    c .claimed-entry .ensures ∙ shift-zero (now (a .s)) (parametersOf (a .g .group)) (a .n) (a .m .before) (a .m .new) (a .m .a) (a .l) (a .k)
-    (c .before .if1 .taken)
+    let a = c .before .before .before .before .before .args in
+    c .claimed-entry .ensures ∙ shift-zero (now (a .s)) (parametersOf (a .g .group)) (a .m .n) (a .m .before) (a .m .new) (a .m .a) (a .l) (a .k)
+    (c .before .before .if1 .taken)
 
 -- row l of the matrix before is within the slice
 row-fits : (c : tie.Then2) →
-    let a = c .before .before .before .before .args in (a .m .before + 4 + 8 * (a .l * a .n + a .n) ≤ length (now (a .s))) ×
+    let a = c .before .before .before .before .args in (a .m .before + 4 + 8 * (a .l * a .m .n + a .m .n) ≤ length (now (a .s))) ×
     (length (now (a .s)) < 2 ^ 64)
 row-fits c =
     let a = c .before .before .before .before .args in
-    (omega (arith, row-below (a .m .rows + 1) (a .n) (a .l) (omega arith)), omega (arith, c .before .before .before .before .good))
+    (omega (arith, row-below (a .m .rows + 1) (a .m .n) (a .l) (omega arith)), omega (arith, c .before .before .before .before .good))
 
 returns-2 : tie.Need-returns-2
 returns-2 c =
     let a = c .before .before .before .before .before .before .args in
-    shift-one (now (a .s)) (parametersOf (a .g .group)) (a .n) (a .m .before) (a .m .new) (a .m .a) (a .l) (a .k) _ _ (c .before .before .if2 .taken)
+    shift-one (now (a .s)) (parametersOf (a .g .group)) (a .m .n) (a .m .before) (a .m .new) (a .m .a) (a .l) (a .k) _ _ (c .before .before .if2 .taken)
     (c .before .product-besides .ensures) (c .product-besides2 .ensures)
 
 -- and so is the pair before that the new one comes from, with its inverses
 source-fits : (c : tie.After-source-of) →
     let a = c .before .before .before .before .before .args in
-    (c .source-of .result < (a .m .rows + 1) * a .n) × (2 * ((a .m .rows + 1) * a .n) ≤ length (now (a .inverses))) × (length (now (a .inverses)) < 2 ^ 64)
+    (c .source-of .result < (a .m .rows + 1) * a .m .n) × (2 * ((a .m .rows + 1) * a .m .n) ≤ length (now (a .inverses))) × (length (now (a .inverses)) < 2 ^ 64)
 source-fits c =
     let a = c .before .before .before .before .before .args in (
-      rw (c .source-of .ensures) (source-below (a .n) (a .l) (a .k - 2) (a .m .rows) (omega arith)),
+      rw (c .source-of .ensures) (source-below (a .m .n) (a .l) (a .k - 2) (a .m .rows) (omega arith)),
       c .before .before .before .before .before .pre .1 .long-enough,
       omega (arith, c .before .before .before .before .before .good),
     )
@@ -54,7 +56,7 @@ returns-3 c =
     let h = source-fits (c .before .before .before .before .before .before) .0 in
     let inverted = c .before .before .before .before .before .before .before .before .before .before .before .pre .1 .inverted in
     said _ _ _ _ (c .before .mul .ensures) (c .mul2 .ensures)
-    ∙ shift-more (now (a .s)) (parametersOf (a .g .group)) (a .n) (a .m .before) (a .m .new) (a .m .a) (a .l) (a .k) from _ _ _ _ (omega arith)
+    ∙ shift-more (now (a .s)) (parametersOf (a .g .group)) (a .m .n) (a .m .before) (a .m .new) (a .m .a) (a .l) (a .k) from _ _ _ _ (omega arith)
     (c .before .before .before .before .before .before .source-of .ensures) (c .before .before .before .before .before .as-element .ensures)
     (c .before .before .before .before .as-element2 .ensures)
     (inverted (2 * from) (omega arith)) (inverted (2 * from + 1) (omega arith))
@@ -62,7 +64,9 @@ returns-3 c =
 pub claimed-shift-spec : {M : Type 1} → statement M
 claimed-shift-spec =
     tie.close
-    (tie.spec claimed-entry-requires returns (λ c. search needs) (λ c. omega (arith, row-fits c)) (λ c. omega (arith, row-fits c))
+    (tie.spec (λ c. omega (arith, pair-fits c)) (λ c. omega (arith, pair-fits c)) (λ c. omega (arith, pair-fits (c .before)))
+    (λ c. omega (arith, pair-fits (c .before))) (λ c. omega (arith, pair-fits (c .before)))
+    (λ c κs. (c .before .before .before .before .pre .0, pair-fits (c .before) .0)) returns (λ c. search needs) (λ c. omega (arith, row-fits c)) (λ c. omega (arith, row-fits c))
     (λ c. omega (arith, row-fits c)) (λ c κs. (c .before .before .before .before .pre .0 .p-pos, λ j h. omega (arith, row-fits c)))
     (λ c. omega (arith, row-fits (c .before)))
     (λ c κs. (c .before .before .before .before .before .pre .0 .p-pos, λ j h. omega (arith, row-fits (c .before)))) returns-2 (λ c. search needs)

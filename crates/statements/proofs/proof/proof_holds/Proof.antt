@@ -22,51 +22,52 @@ use Rattle.statements.proofs.proof.proof_holds.Statement.{statement}
 use Rattle.statements.proofs.proof.proof_holds.Tie as tie
 
 abbrev Inv-loop : tie.InvT-loop
-Inv-loop board label inverses g n claim at branches statements h₀ sum ok₀ l from e i₀ h ok i =
+Inv-loop board inverses bases g claim at branches statements h₀ sum ok₀ l from e i₀ h ok i =
     (i ≤ statements) × (ok ≡ true)
-    × (allBelow i (here board (parametersOf (g .group)) (claimOf board (parametersOf (g .group)) n claim) at statements l) ≡ true)
-    × Fed h ((label ++ concatBelow l (pieces board at statements)) ++ concatBelow i (piece board at statements l))
+    × (allBelow i (here board (g .group .p) (bases .first .0) (bases .second .0) (claimOf board (parametersOf (g .group)) claim) at statements l) ≡ true)
+    × ((m : List ℕ) → Fed h₀ m → Fed h (m ++ concatBelow i (piece board at statements l)))
 
 abbrev μ-loop : tie.MeasureT-loop
-μ-loop board label inverses g n claim at branches statements h₀ sum ok₀ l from e i₀ h ok i = statements - i
+μ-loop board inverses bases g claim at branches statements h₀ sum ok₀ l from e i₀ h ok i = statements - i
 
 abbrev Inv-branches : tie.InvT-branches
-Inv-branches board label inverses g n claim at branches statements h₀ sum₀ ok₀ l₀ h sum ok l =
+Inv-branches board inverses bases g claim at branches statements h₀ sum₀ ok₀ l₀ h sum ok l =
     (l ≤ branches) × (ok ≡ true)
-    × (allBelow l (branchHere board (parametersOf (g .group)) (claimOf board (parametersOf (g .group)) n claim) at statements) ≡ true)
-    × (sum .0 ≡ sumBelow l (challenges board at statements) % g .group .q) × Fed h (label ++ concatBelow l (pieces board at statements))
+    × (allBelow l (branchHere board (g .group .p) (bases .first .0) (bases .second .0) (claimOf board (parametersOf (g .group)) claim) at statements) ≡ true)
+    × (sum .0 ≡ sumBelow l (challenges board at statements) % g .group .q)
+    × ((m : List ℕ) → Fed h₀ m → Fed h (m ++ concatBelow l (pieces board at statements)))
 
 abbrev μ-branches : tie.MeasureT-branches
-μ-branches board label inverses g n claim at branches statements h₀ sum₀ ok₀ l₀ h sum ok l = branches - l
+μ-branches board inverses bases g claim at branches statements h₀ sum₀ ok₀ l₀ h sum ok l = branches - l
 
-abbrev start-from-update : tie.After-update Inv-loop μ-loop Inv-branches μ-branches → tie.Start Inv-loop μ-loop Inv-branches μ-branches
-start-from-update c = c .before .before .before .before .before
+abbrev start-from-branches : tie.At-branches Inv-loop μ-loop Inv-branches μ-branches → tie.Start Inv-loop μ-loop Inv-branches μ-branches
+start-from-branches c = c .before .before .before
 
 abbrev start-from-loop : tie.At-loop Inv-loop μ-loop Inv-branches μ-branches → tie.Start Inv-loop μ-loop Inv-branches μ-branches
-start-from-loop c = start-from-update (c .before .before .before .before .before)
+start-from-loop c = start-from-branches (c .before .before .before .before)
 
-abbrev start-from-update2 : tie.After-update2 Inv-loop μ-loop Inv-branches μ-branches → tie.Start Inv-loop μ-loop Inv-branches μ-branches
-start-from-update2 c = start-from-loop (c .before .before .before .before .before)
+abbrev start-from-update : tie.After-update Inv-loop μ-loop Inv-branches μ-branches → tie.Start Inv-loop μ-loop Inv-branches μ-branches
+start-from-update c = start-from-loop (c .before .before .before .before .before)
 
 abbrev start-from-digest : tie.After-digest Inv-loop μ-loop Inv-branches μ-branches → tie.Start Inv-loop μ-loop Inv-branches μ-branches
-start-from-digest c = start-from-update (c .before .before .before .before .before)
+start-from-digest c = start-from-branches (c .before .before .before .before)
 
 branches-holds : tie.Need-branches-holds Inv-loop μ-loop Inv-branches μ-branches
 unfolding sumBelow
 branches-holds c =
-    let a = c .before .before .before .before .before .args in
-    (omega arith, refl, all-none _, sym (zero-mod (a .g .group .q)), rw nothing-more (c .update .ensures _ (c .before .new .ensures)))
+    let a = c .before .before .args in
+    (omega arith, refl, all-none _, sym (zero-mod (a .g .group .q)), λ m f. rw nothing-more f)
 
 -- the branch is on the board, and so is the statement
 branch-fits : (c : tie.In-branches Inv-loop μ-loop Inv-branches μ-branches) →
-    let a = (start-from-update (c .before .before)) .args in
+    let a = (start-from-branches (c .before)) .args in
     (branchAt (a .shape .at) (a .shape .statements) (c .before .branches .l) + (4 + 12 * a .shape .statements) ≤ length (now (a .board))) ×
     (length (now (a .board)) < 2 ^ 64)
 branch-fits c =
-    let a = (start-from-update (c .before .before)) .args in (
+    let a = (start-from-branches (c .before)) .args in (
       branch-within (a .shape .at) (a .shape .branches) (a .shape .statements) (c .before .branches .l) (length (now (a .board)))
-          ((start-from-update (c .before .before)) .pre .1 .0) (c .branches-test .taken),
-      omega (arith, (start-from-update (c .before .before)) .good),
+          ((start-from-branches (c .before)) .pre .1 .0) (c .branches-test .taken),
+      omega (arith, (start-from-branches (c .before)) .good),
     )
 
 fits : (c : tie.In-loop Inv-loop μ-loop Inv-branches μ-branches) →
@@ -85,7 +86,7 @@ fits c =
 loop-holds : tie.Need-loop-holds Inv-loop μ-loop Inv-branches μ-branches
 loop-holds c =
     let o = c .before .before .before .branches in
-    (omega arith, o .inv .1, all-none _, rw nothing-more (o .inv .4))
+    (omega arith, o .inv .1, all-none _, λ m f. rw nothing-more f)
 
 statement-at-requires : tie.Need-statement-at-requires Inv-loop μ-loop Inv-branches μ-branches
 statement-at-requires c κs =
@@ -102,25 +103,24 @@ statement-at-requires c κs =
 this : (c : tie.After-statement-at Inv-loop μ-loop Inv-branches μ-branches) →
     let a = (start-from-loop (c .before .before)) .args in
     c .statement-at .result
-    ≡ here (now (a .board)) (parametersOf (a .g .group)) (claimOf (now (a .board)) (parametersOf (a .g .group)) (a .n) (a .claim)) (a .shape .at)
+    ≡ here (now (a .board)) (a .g .group .p) (a .bases .first .0) (a .bases .second .0) (claimOf (now (a .board)) (parametersOf (a .g .group)) (a .claim)) (a .shape .at)
     (a .shape .statements)
     (c .before .before .before .before .before .before .branches .l) (c .before .before .loop .i)
 this c = rw (← c .before .before .before .before .as-exponent .ensures) (c .statement-at .ensures)
 
 add-i : tie.Need-add-i Inv-loop μ-loop Inv-branches μ-branches
 add-i c =
-    omega (arith, (start-from-update2 c) .good, c .before .before .before .before .loop-test .taken)
+    omega (arith, (start-from-update c) .good, c .before .before .before .before .loop-test .taken)
 
 loop-again : tie.Need-loop-again Inv-loop μ-loop Inv-branches μ-branches
 loop-again c =
-    let a = (start-from-update2 c) .args in
+    let a = (start-from-update c) .args in
     let o = c .before .before .before .before .before .before .before .before .before .branches in
     let t = c .before .before .before .before .before .loop in (
       omega (arith, c .before .before .before .before .loop-test .taken),
       t .inv .1,
       all-more _ _ (t .inv .2) (sym (this (c .before .before .before)) ∙ not-false _ (c .before .before .if1 .left)),
-      fed-more (c .update2 .result) (now (a .label) ++ concatBelow (o .l) (pieces (now (a .board)) (a .shape .at) (a .shape .statements))) (now (a .board)) (a .shape .at)
-          (a .shape .statements) (o .l) (t .i) (c .update2 .ensures _ (t .inv .3)),
+      λ m f. fed-more (c .update .result) m (now (a .board)) (a .shape .at) (a .shape .statements) (o .l) (t .i) (c .update .ensures _ (t .inv .3 m f)),
     )
 
 branches-again : tie.Need-branches-again Inv-loop μ-loop Inv-branches μ-branches
@@ -134,32 +134,32 @@ branches-again c =
       all-more _ _ (o .inv .2) (all-end _ _ _ (t .inv .0) (c .loop-test .left) (t .inv .2)),
       sum-more (a .g .group .q) _ _ _ (o .l) (challenges (now (a .board)) (a .shape .at) (a .shape .statements)) (o .inv .3)
           (c .before .before .before .as-exponent .ensures) (c .before .before .add .ensures),
-      fed-branch (t .h) (now (a .label)) (now (a .board)) (a .shape .at) (a .shape .statements) (o .l) (t .i) e (t .inv .3),
+      λ m f. fed-branch (t .h) m (now (a .board)) (a .shape .at) (a .shape .statements) (o .l) (t .i) e (t .inv .3 _ (o .inv .4 m f)),
     )
 
 -- what holds where the loops end without a failing statement
 record Done (c : tie.Left-branches Inv-loop μ-loop Inv-branches μ-branches) : Type 0 where
   pub all :
-      let a = c .before .before .before .before .before .before .before .args in
-      allBelow (a .shape .branches) (branchHere (now (a .board)) (parametersOf (a .g .group))
-      (claimOf (now (a .board)) (parametersOf (a .g .group)) (a .n) (a .claim)) (a .shape .at) (a .shape .statements))
+      let a = c .before .before .before .before .args in
+      allBelow (a .shape .branches) (branchHere (now (a .board)) (a .g .group .p) (a .bases .first .0) (a .bases .second .0)
+      (claimOf (now (a .board)) (parametersOf (a .g .group)) (a .claim)) (a .shape .at) (a .shape .statements))
       ≡ true
   pub sum :
-      let a = c .before .before .before .before .before .before .before .args in
+      let a = c .before .before .before .before .args in
       c .branches-test .sum .0 ≡ sumBelow (a .shape .branches) (challenges (now (a .board)) (a .shape .at) (a .shape .statements)) % a .g .group .q
   pub fed :
-      let a = c .before .before .before .before .before .before .before .args in
-      Fed (c .branches-test .h) (now (a .label) ++ concatBelow (a .shape .branches) (pieces (now (a .board)) (a .shape .at) (a .shape .statements)))
+      let a = c .before .before .before .before .args in
+      (m : List ℕ) → Fed (a .prefix) m → Fed (c .branches-test .h) (m ++ concatBelow (a .shape .branches) (pieces (now (a .board)) (a .shape .at) (a .shape .statements)))
 
 -- where the ways out of the loops meet
 after : (c : tie.Left-branches Inv-loop μ-loop Inv-branches μ-branches) →
-    let a = (start-from-update (c .before .before)) .args in
+    let a = (start-from-branches (c .before)) .args in
     (c .branches-test .ok ≡ true → Done c)
-    × (c .branches-test .ok ≡ false →
-    false ≡ proofHolds (now (a .board)) (a .shape .at) (a .shape .branches) (a .shape .statements) sha256 (now (a .label)) (parametersOf (a .g .group))
-    (claimOf (now (a .board)) (parametersOf (a .g .group)) (a .n) (a .claim)))
+    × (c .branches-test .ok ≡ false → (m : List ℕ) →
+    false ≡ proofHolds (now (a .board)) (a .shape .at) (a .shape .branches) (a .shape .statements) sha256 m (a .g .group .p) (a .g .group .q)
+    (a .bases .first .0) (a .bases .second .0) (claimOf (now (a .board)) (parametersOf (a .g .group)) (a .claim)))
 after c =
-    let a = (start-from-update (c .before .before)) .args in
+    let a = (start-from-branches (c .before)) .args in
     let o = c .before .branches in
     ⊎-elim
     (λ w.
@@ -167,14 +167,14 @@ after c =
       λ _. record {
         all = all-end _ _ _ (o .inv .0) (w .0 .left) (o .inv .2);
         sum = rw (w .2, ← e) (o .inv .3);
-        fed = rw (w .1, ← e) (o .inv .4);
+        fed = λ m f. rw (w .1, ← e) (o .inv .4 m f);
       },
       λ z. absurd (true≢false (sym (o .inv .1) ∙ sym (w .3) ∙ z)),
     ))
     (λ w. (
       λ z. absurd (true≢false (sym z ∙ w .9)),
-      λ _. fails-there (now (a .board)) (now (a .label)) (parametersOf (a .g .group))
-          (claimOf (now (a .board)) (parametersOf (a .g .group)) (a .n) (a .claim))
+      λ _ m. fails-there (now (a .board)) m (a .g .group .p) (a .g .group .q) (a .bases .first .0) (a .bases .second .0)
+          (claimOf (now (a .board)) (parametersOf (a .g .group)) (a .claim))
           (a .shape .at) (a .shape .branches) (a .shape .statements) (o .l) (w .3 .i) (w .0 .taken) (w .4 .taken)
           (sym (this (record {
             before = record {
@@ -190,20 +190,21 @@ after c =
     (c .branches-test .came)
 
 returns-2 : tie.Need-returns-2 Inv-loop μ-loop Inv-branches μ-branches
-returns-2 c =
+returns-2 c m f =
     let a = (start-from-digest (c .before .before .before)) .args in
     let k = after (c .before .before .before .before .before .before) .0 (not-false _ (c .before .before .before .before .before .if2 .left)) in
-    sums-up (now (a .board)) (now (a .label)) (parametersOf (a .g .group)) (claimOf (now (a .board)) (parametersOf (a .g .group)) (a .n) (a .claim))
+    sums-up (now (a .board)) m (a .g .group .p) (a .g .group .q) (a .bases .first .0) (a .bases .second .0)
+    (claimOf (now (a .board)) (parametersOf (a .g .group)) (a .claim))
     (a .shape .at) (a .shape .branches) (a .shape .statements) _ _ (k .all) (k .sum)
     (c .before .before .challenge .ensures ∙ ap (λ (d : List ℕ). number8 d 0 % a .g .group .q)
-    (c .before .before .before .before .finish .ensures _ (k .fed)))
+    (c .before .before .before .before .finish .ensures _ (k .fed m f)))
 
 pub proof-holds-spec : {M : Type 1} → statement M
 proof-holds-spec =
     tie.close
-    (tie.spec Inv-loop μ-loop Inv-branches μ-branches (λ c κs. search needs) (λ c κs. search needs) branches-holds (λ c. omega (arith, branch-fits c))
+    (tie.spec Inv-loop μ-loop Inv-branches μ-branches branches-holds (λ c. omega (arith, branch-fits c))
     (λ c. omega (arith, branch-fits c)) (λ c. omega (arith, branch-fits c)) (λ c. omega (arith, branch-fits c)) (λ c κs. omega (arith, branch-fits c))
     (λ c κs. search needs) loop-holds (λ c. omega (arith, fits c)) (λ c. omega (arith, fits c)) (λ c. omega (arith, fits c)) statement-at-requires
     (λ c. omega (arith, fits (c .before .before))) (λ c. omega (arith, fits (c .before .before))) (λ c. omega (arith, fits (c .before .before)))
     (λ c. omega (arith, fits (c .before .before))) (λ c κs. search needs) add-i (λ c. omega arith) loop-again (λ c. omega arith) (λ c. omega arith)
-    branches-again (λ c. after (c .before) .1 (not-true _ (c .if2 .taken))) (λ c κs. search needs) (λ c κs. search needs) returns-2)
+    branches-again (λ c m _. after (c .before) .1 (not-true _ (c .if2 .taken)) m) (λ c κs. search needs) (λ c κs. search needs) returns-2)

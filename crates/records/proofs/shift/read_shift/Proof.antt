@@ -1,0 +1,71 @@
+use denote.Ref.{now}
+use Prim.Native.Nat.{_+_, _-_}
+use mathlib.Core.Path.{sym, _∙_}
+use native.Mathlib.Omega.{arith}
+use borrow.Author.Needs.{needs}
+use borrow.Author.Tests.{not-true, not-false}
+use Rattle.sha256.specs.Message.{sha256}
+use Rattle.rules.specs.Bytes.{number2}
+use Rattle.rules.specs.Records.{SH, shiftLength}
+use Rattle.rules.specs.Shift.{shiftFault}
+use Rattle.records.specs.Heads.{headOf}
+use Rattle.records.specs.declared.Fault.the-variants.{Sound}
+use Rattle.records.specs.Faults.{Framed}
+use Rattle.records.specs.Parts.{shiftFieldsAt, shiftProofAt}
+use Rattle.records.proofs.Framing.{FiveTests, wrong-frame, wrong-field, wrong-proof, all-sound}
+use Rattle.records.proofs.BallotTables.{shift-table}
+use Rattle.records.proofs.shift.read_shift.Statement.{statement}
+use Rattle.records.proofs.shift.read_shift.Tie as tie
+
+-- the frame is sound
+framed : (c : tie.After-enum-told) →
+    let a = c .before .before .before .before .before .before .args in Framed (now (a .board)) (a .at) (shiftLength (a .h .n) (a .rows)) SH
+    (number2 (now (a .board)) (a .at + 2)) (a .number) Sound
+framed c = rw (c .before .before .before .shift-length .ensures .0, c .enum-told .given .1) at (c .before .before .ballot-frame .ensures)
+
+table : (c : tie.After-group) →
+    let a = c .before .before .args in
+    FiveTests (now (a .board)) (a .at) (shiftLength (a .h .n) (a .rows)) SH (number2 (now (a .board)) (a .at + 2)) (a .number)
+    (shiftFieldsAt (now (a .board)) (a .h .n) (a .h .setup .group .p) (a .h .setup .group .q) (a .at) (a .rows))
+    (shiftProofAt (now (a .board)) (a .h) (a .before) (a .at) (a .rows) (a .a - 1))
+    (shiftFault sha256 (now (a .board)) (headOf (now (a .board)) (a .h)) (a .rows) (a .at) (a .a) (a .before) (a .number))
+table c = let a = c .before .before .args in shift-table (now (a .board)) (a .h) (a .at) (a .rows) (a .a) (a .before) (a .number)
+
+returns : tie.Need-returns
+returns c =
+    wrong-frame (table (c .before .before .before .before .before)) _
+    (rw (c .before .before .before .before .shift-length .ensures .0, c .before .framed .given .1) at (c .before .before .before .ballot-frame .ensures))
+
+fields-good-requires : tie.Need-fields-good-requires
+unfolding Framed
+fields-good-requires c κs = omega (arith, framed c .0)
+
+returns-2 : tie.Need-returns-2
+returns-2 c =
+    wrong-field (table (c .before .before .before .before .before .before)) (framed (c .before .before))
+    (sym (c .before .fields-good .ensures) ∙ not-true _ (c .if1 .taken))
+
+shift-proof-requires : tie.Need-shift-proof-requires
+unfolding Framed
+shift-proof-requires c κs =
+    let pre = c .before .before .before .before .before .before .before .before .pre in
+    ((pre .0 .0, pre .0 .2, omega arith), (pre .1, framed (c .before .before) .0))
+
+returns-3 : tie.Need-returns-3
+returns-3 c =
+    let f = c .before .before .before in
+    wrong-proof (table (f .before .before .before .before .before)) (framed (f .before))
+    (sym (f .fields-good .ensures) ∙ not-false _ (c .before .before .if1 .left)) (sym (c .before .shift-proof .ensures) ∙ not-true _ (c .if2 .taken))
+
+returns-4 : tie.Need-returns-4
+returns-4 c =
+    let f = c .before .before .before in
+    all-sound (table (f .before .before .before .before .before)) (framed (f .before))
+    (sym (f .fields-good .ensures) ∙ not-false _ (c .before .before .if1 .left)) (sym (c .before .shift-proof .ensures) ∙ not-false _ (c .if2 .left))
+    _ (omega (arith, f .before .before .before .before .shift-length .ensures .0))
+
+pub read-shift-spec : {M : Type 1} → statement M
+read-shift-spec =
+    tie.close
+    (tie.spec (λ c κs. search needs) (λ c κs. search needs) (λ c. search needs) returns (λ c. search needs) (λ c. search needs) (λ c. search needs)
+    (λ c. search needs) fields-good-requires returns-2 (λ c. search needs) shift-proof-requires returns-3 (λ c. search needs) returns-4)

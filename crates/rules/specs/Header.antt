@@ -1,0 +1,46 @@
+-- The HD record, which a board starts with.
+use Prim.Native.Nat.{ℕ}
+use mathlib.Core.Bool.{Bool, _&&_}
+use mathlib.Core.List.{List, [], _∷_}
+use lib.Dec.{leb}
+use lib.ListN.{length, getD}
+use Rattle.group.specs.Elements.{Parameters}
+use Rattle.rules.specs.Bytes.{number4, number2, part}
+use Rattle.rules.specs.Group.{orders, generators}
+use Rattle.rules.specs.Records.{HD, hasMark, headerLength}
+use Rattle.rules.specs.Tests.{firstFault, _orElse_}
+use Rattle.rules.specs.declared.Model.{Model}
+
+-- "n is the number of processes (2 to 8, numbered from 1), K the number of ballots (1 to 1,000)."
+abbrev pub ranked : Model
+ranked = record { mark = HD; least = 2; most = 8; ballots = 1000 }
+
+-- n and K are in a model's range
+abbrev pub sizes : Model → (n K : ℕ) → Bool
+sizes model n K = leb (model .least) n && leb n (model .most) && leb 1 K && leb K (model .ballots)
+
+-- "HD | n 1, K 2, p 4, q 4, g0 4, counter 1, g1 4, label 32"; the counter serves to make g1 alone
+pub record Header : Type 0 where
+  pub n : ℕ
+  pub K : ℕ
+  pub group : Parameters
+  pub label : List ℕ
+
+module _ (s : List ℕ) where
+  unfoldable pub header : Header
+  header = record { n = getD s 2 0; K = number2 s 3; group = record { p = number4 s 5; q = number4 s 9; g0 = number4 s 13; g1 = number4 s 18 }; label = part s 22 32 }
+
+  abbrev pub counterField : ℕ
+  counterField = getD s 17 0
+
+-- 1 ("for a first record, 54"), 2, "n or K out of range", "a rule on p and q broken", "a rule on g0 or g1 broken"
+unfoldable pub headerFault : (hash : List ℕ → List ℕ) → Model → (s : List ℕ) → ℕ
+unfolding header
+headerFault hash model s =
+    firstFault
+    ((leb headerLength (length s) orElse 1)
+    ∷ (hasMark s 0 (model .mark) orElse 2)
+    ∷ (sizes model (header s .n) (header s .K) orElse 3)
+    ∷ (orders (header s .n) (header s .K) (header s .group .p) (header s .group .q) orElse 4)
+    ∷ (generators hash (header s .label) (counterField s) (header s .group) orElse 5)
+    ∷ [])
