@@ -8,14 +8,14 @@ pub mod ShiftRecord
 pub mod SheetRecord
 pub mod Rounds
 use Prim.Native.Nat.{ℕ, _+_, _-_, _<_, zero-le}
-use native.Mathlib.Nat.{mod-lt}
+use native.Mathlib.Nat.{mod-lt, zero-add}
 use native.Mathlib.Omega.{arith}
 use mathlib.Core.Path.{subst, subst⁻¹, _≡_, sym, refl, _∙_}
 use mathlib.Core.Bool.{true, and-eq-true-iff}
 use mathlib.Core.List.{List, [], _∷_, _++_}
 use lib.ListN.{length, getD, length-append}
 use borrow.Author.Tests.{le-leb, ltb-true}
-use Rattle.rules.specs.Bytes.{number2, number4, part, bytes2, bytes4, Stands}
+use Rattle.rules.specs.Bytes.{number2, number4, bytes2, bytes4, Stands}
 use Rattle.group.specs.Elements.{Parameters, isElement}
 use Rattle.rules.specs.Group.{generators, derived}
 use Rattle.group.specs.Arithmetic.{powMod}
@@ -53,59 +53,44 @@ module _ (hash : List ℕ → List ℕ) (job : Job) (f : Fine hash job) where
   good = good-group hash job f
 
   -- ---- the header
-  read-n : getD s 2 0 ≡ job .n
-  unfolding board
-  read-n = refl
-
-  marked : hasMark s 0 HD ≡ true
-  unfolding board
-  marked = refl
-
-  read-counter : getD s 17 0 ≡ job .counter
-  unfolding board
-  read-counter = refl
-
-  read-K : number2 s 3 ≡ job .K
-  unfolding board
-  read-K = half-stands (omega (arith, f .K-high)) (stands-left (bytes2 (job .K)) _ (stands-right (72 ∷ 68 ∷ job .n ∷ []) _ refl (stands-whole s)))
-
-  read-p : number4 s 5 ≡ job .p
-  unfolding board
-  read-p = word-stands (omega (arith, good .small)) (stands-left (bytes4 (job .p)) _ (stands-right (72 ∷ 68 ∷ job .n ∷ bytes2 (job .K)) _ refl (stands-whole s)))
-
-  read-q : number4 s 9 ≡ job .q
-  unfolding board
-  read-q = word-stands (omega (arith, good)) (stands-left (bytes4 (job .q)) _ (stands-right (72 ∷ 68 ∷ job .n ∷ bytes2 (job .K) ++ bytes4 (job .p)) _ refl (stands-whole s)))
-
   g0-below : job .g0 < job .p
   unfolding generators isElement
   g0-below = let w = simp and-eq-true-iff at (f .generated) in ltb-true (job .g0) (job .p) (w .0 .0 .0 .0 .0 .0 .1)
 
-  read-g0 : number4 s 13 ≡ job .g0
-  unfolding board
-  read-g0 =
-      word-stands (omega (arith, g0-below, good .small))
-      (stands-left (bytes4 (job .g0)) _ (stands-right (72 ∷ 68 ∷ job .n ∷ bytes2 (job .K) ++ bytes4 (job .p) ++ bytes4 (job .q)) _ refl (stands-whole s)))
+  g1-below : g .g1 < job .p
+  unfolding derived powMod
+  g1-below = mod-lt _ (omega (arith, good .large))
 
-  read-g1 : number4 s 18 ≡ g .g1
-  unfolding board derived powMod
-  read-g1 =
-      let small : g .g1 < job .p = mod-lt _ (omega (arith, good .large)) in
-      word-stands (omega (arith, good .small))
-      (stands-left (bytes4 (g .g1)) _
-      (stands-right (72 ∷ 68 ∷ job .n ∷ bytes2 (job .K) ++ bytes4 (job .p) ++ bytes4 (job .q) ++ bytes4 (job .g0) ++ (job .counter ∷ [])) _ refl (stands-whole s)))
+  -- a number of four bytes behind the first bytes of the board
+  word-behind : (front : List ℕ) (x : ℕ) (rest : List ℕ) → x < 4294967296 → front ++ (bytes4 x ++ rest) ≡ s → number4 s (length front) ≡ x
+  word-behind front x rest l e =
+      rw zero-add at (word-stands l (stands-left (bytes4 x) rest (stands-right front (bytes4 x ++ rest) refl (subst (Stands s 0) (sym e) (stands-whole s)))))
+
+  fields : (hasMark s 0 HD ≡ true) × (getD s 2 0 ≡ job .n) × (number2 s 3 ≡ job .K) × (number4 s 5 ≡ job .p) × (number4 s 9 ≡ job .q)
+      × (number4 s 13 ≡ job .g0) × (getD s 17 0 ≡ job .counter) × (number4 s 18 ≡ g .g1)
+  unfolding board
+  fields =
+      let front : List ℕ = 72 ∷ 68 ∷ job .n ∷ bytes2 (job .K) in (
+        refl,
+        refl,
+        half-stands (omega (arith, f .K-high)) (stands-left (bytes2 (job .K)) _ (stands-right (72 ∷ 68 ∷ job .n ∷ []) _ refl (stands-whole s))),
+        word-behind front (job .p) _ (omega (arith, good .small)) refl,
+        word-behind (front ++ bytes4 (job .p)) (job .q) _ (omega (arith, good)) refl,
+        word-behind (front ++ bytes4 (job .p) ++ bytes4 (job .q)) (job .g0) _ (omega (arith, g0-below, good .small)) refl,
+        refl,
+        word-behind (front ++ bytes4 (job .p) ++ bytes4 (job .q) ++ bytes4 (job .g0) ++ (job .counter ∷ [])) (g .g1) _ (omega (arith, g1-below, good .small)) refl,
+      )
 
   after-g1 : Stands s 22 (job .label ++ later)
   unfolding board
   after-g1 =
       stands-right (72 ∷ 68 ∷ job .n ∷ bytes2 (job .K) ++ bytes4 (job .p) ++ bytes4 (job .q) ++ bytes4 (job .g0) ++ (job .counter ∷ []) ++ bytes4 (g .g1)) _ refl (stands-whole s)
 
-  read-label : part s 22 32 ≡ job .label
-  read-label = part-stands (f .labelled) (stands-left (job .label) later after-g1)
-
   header-same : header s ≡ headerOf hash job
   unfolding header
-  header-same = rw (read-n, read-K, read-p, read-q, read-g0, read-g1, read-label)
+  header-same =
+      let r = fields in
+      rw (r .1, r .2, r .3, r .4, r .5, r .7, part-stands (f .labelled) (stands-left (job .label) later after-g1))
 
   long : length s ≡ 54 + length later
   unfolding board
@@ -115,10 +100,10 @@ module _ (hash : List ℕ → List ℕ) (job : Job) (f : Fine hash job) where
   header-kept =
       record {
         fits = omega (arith, long);
-        marked = marked;
+        marked = fields .0;
         sized = rw (header-same, le-leb 2 (job .n) (f .n-low), le-leb (job .n) 8 (f .n-high), le-leb 1 (job .K) (f .K-low), le-leb (job .K) 1000 (f .K-high));
         ordered = rw header-same (f .ordered);
-        generated = rw (header-same, read-counter) (f .generated);
+        generated = rw (header-same, fields .6) (f .generated);
       }
 
   begun : Reach hash job s (job .n) start 0 [] 0

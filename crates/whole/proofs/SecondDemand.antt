@@ -1,7 +1,7 @@
 -- The second demand holds, for every hash.
 use Prim.Native.Nat.{ℕ, zero, suc, _+_, _*_, _-_, _≤_, _<_}
 use mathlib.Core.Path.{_≡_, refl, sym, subst, _∙_}
-use mathlib.Core.Bool.{true, false}
+use mathlib.Core.Bool.{true, false, cond}
 use mathlib.Core.List.{List, [], _∷_}
 use mathlib.Core.Logic.{_⊎_, inl, inr, ⊎-elim}
 use native.Mathlib.Nat.{pos-of-ne-zero, mul-le-mul-right, eq-or-lt-of-le}
@@ -11,13 +11,14 @@ use lib.Dec.{leb, eqb}
 use lib.ListN.{length, length-append}
 use borrow.Author.Tests.{leb-true, leb-false, eqb-true, eqb-false, eq-eqb, ne-eqb}
 use Rattle.numbers.proofs.Search.{extend}
-use Rattle.numbers.proofs.Tests.{by-cases, or-false-left}
-use Rattle.rules.specs.Count.{closes, wins}
+use Rattle.numbers.proofs.Tests.{by-cases}
+use Rattle.rules.specs.Count.{wins}
 use Rattle.rules.specs.Header.{ranked, Header, header, headerFault}
-use Rattle.rules.specs.Check.{Verdict, accepted, refused, recordsRead, roundsRead, counts, recordFault, roundSheetFault, checkFrom, checkModel, checkBoard}
+use Rattle.rules.specs.Check.{Verdict, accepted, refused, recordsRead, roundsRead, counts, ending, recordFault, roundSheetFault, checkFrom, checkModel, checkBoard}
 use Rattle.whole.specs.Rules.{HeaderRules}
 use Rattle.whole.specs.SecondDemand.{roundPlace, standingAt, outBefore, closesAt, dueAt, ballotNumber, sheetNumber, RecordHolds, SheetHolds, EveryRuleHolds, HoldsBefore, OpenBefore, FirstBroken, in-header, in-record, in-sheet, at-end, SecondDemand}
 use Rattle.rules.proofs.Faults.{Faulty, faulty-or-none}
+use Rattle.rules.proofs.Leaving.{not-last}
 use Rattle.rules.proofs.Positions.{number-is}
 use Rattle.whole.proofs.FirstFails.{first-fails}
 use Rattle.whole.proofs.Rules.{header-rules, record-rules, round-sheet-rules}
@@ -113,40 +114,26 @@ module _ (hash : List ℕ → List ℕ) (s : List ℕ) where
   sheets-counted (suc m) = omega (arith, length-append (standingAt s m .sheets) (counts s h m ∷ []), sheets-counted m)
 
   pub early : (m : ℕ) → HeaderRules hash ranked s → Open m → m + 2 ≤ h .n
-  unfolding closes
   early zero w o = header-good hash s w .two
-  early (suc m) w o =
-      let not-last = eqb-false (length (standingAt s m .sheets) + 1) (h .n - 1) (or-false-left _ _ (o m (omega arith))) in
-      omega (arith, early m w (λ r l. o r (omega arith)), sheets-counted m, not-last)
+  early (suc m) w o = omega (arith, early m w (λ r l. o r (omega arith)), not-last (h .n) m (standingAt s m) _ K (sheets-counted m) (o m (omega arith)))
 
   -- round m as the checker reads it, with what comes after
   abbrev Round : (m fuel : ℕ) → Verdict
   Round m fuel = checkFrom hash s h (suc fuel) (standingAt s m) m (outBefore s m)
 
-  module _ (m fuel : ℕ) where
-    record-refused : (k : ℕ) → k < K → ((j : ℕ) → j < k → recordFault hash s h (outBefore s m) m j ≡ 0) → 1 ≤ recordFault hash s h (outBefore s m) m k →
-        Round m fuel ≡ refused (recordFault hash s h (outBefore s m) m k) (ballotNumber s m k)
-    unfolding checkFrom
-    record-refused k l earlier bad = in-a-record hash s h (standingAt s m) m (outBefore s m) _ k l earlier (λ z. omega arith)
+  -- a round that keeps its rules
+  module _ (m fuel : ℕ) (records : (k : ℕ) → k < K → RecordHolds hash s m k) (sheet : SheetHolds hash s m) where
+    goes-on : Round m fuel ≡ cond (closesAt s m) (ending s h (standingAt s m) m) (checkFrom hash s h fuel (standingAt s (suc m)) (suc m) (outBefore s (suc m)))
+    unfolding standingAt outBefore
+    goes-on =
+        round-read hash s h fuel (standingAt s m) m (outBefore s m) (λ k l. record-rules hash s h (outBefore s m) m k .1 (records k l)) (round-sheet-rules s h m (dueAt s m) .1 sheet)
 
-    module _ (good : (k : ℕ) → k < K → recordFault hash s h (outBefore s m) m k ≡ 0) where
-      sheet-refused : 1 ≤ roundSheetFault s h m (dueAt s m) → Round m fuel ≡ refused (roundSheetFault s h m (dueAt s m)) (sheetNumber s m)
-      unfolding checkFrom
-      sheet-refused bad = in-the-sheet hash s h (standingAt s m) m (outBefore s m) _ good (λ z. omega arith)
+    ends-here : closesAt s m ≡ true → length s ≡ roundPlace s (suc m) → Round m fuel ≡ accepted (m + 1) (standingAt s m .gone) (wins (h .n) (standingAt s m) (counts s h m))
+    ends-here e l = goes-on ∙ rw (e, eq-eqb (length s) (roundPlace s (suc m)) l)
 
-      module _ (sheet : roundSheetFault s h m (dueAt s m) ≡ 0) where
-        goes-on : closesAt s m ≡ false → Round m fuel ≡ checkFrom hash s h fuel (standingAt s (suc m)) (suc m) (outBefore s (suc m))
-        unfolding checkFrom standingAt outBefore
-        goes-on e = round-read hash s h (standingAt s m) m (outBefore s m) _ good sheet ∙ rw e
-
-        ends-here : closesAt s m ≡ true → length s ≡ roundPlace s (suc m) → Round m fuel ≡ accepted (m + 1) (standingAt s m .gone) (wins (h .n) (standingAt s m) (counts s h m))
-        unfolding checkFrom roundsRead
-        ends-here e l = round-read hash s h (standingAt s m) m (outBefore s m) _ good sheet ∙ rw (e, eq-eqb (length s) (roundPlace s (suc m)) l)
-
-        bytes-remain : closesAt s m ≡ true → roundPlace s (suc m) < length s → Round m fuel ≡ refused 12 (sheetNumber s m + 1)
-        unfolding checkFrom roundsRead
-        bytes-remain e l =
-            round-read hash s h (standingAt s m) m (outBefore s m) _ good sheet ∙ rw (e, ne-eqb (length s) (roundPlace s (suc m)) (λ z. omega arith))
+    bytes-remain : closesAt s m ≡ true → roundPlace s (suc m) < length s → Round m fuel ≡ refused 12 (sheetNumber s m + 1)
+    unfolding roundsRead
+    bytes-remain e l = goes-on ∙ rw (e, ne-eqb (length s) (roundPlace s (suc m)) (λ z. omega arith))
 
   -- it comes to round m if no rule is broken before
   reach : (m fuel : ℕ) → Passed m → Open m → fuel + m ≡ h .n → checkBoard hash s ≡ checkFrom hash s h fuel (standingAt s m) m (outBefore s m)
@@ -154,7 +141,8 @@ module _ (hash : List ℕ → List ℕ) (s : List ℕ) where
   reach zero fuel p o e = let same : fuel ≡ h .n = omega arith in rw (header-rules hash ranked s .1 (p .head), same)
   reach (suc m) fuel p o e =
       reach m (suc fuel) (passed-fewer p) (λ r l. o r (omega arith)) (omega arith)
-      ∙ goes-on m fuel (λ k l. record-rules hash s h (outBefore s m) m k .1 (p .records m k (omega arith) l)) (round-sheet-rules s h m (dueAt s m) .1 (p .sheets m (omega arith))) (o m (omega arith))
+      ∙ goes-on m fuel (λ k. p .records m k (omega arith)) (p .sheets m (omega arith))
+      ∙ rw (o m (omega arith))
 
   pub sheet-fits : (m : ℕ) → SheetHolds hash s m → roundPlace s (suc m) ≤ length s
   unfolding roundsRead
@@ -192,27 +180,26 @@ module _ (hash : List ℕ → List ℕ) (s : List ℕ) where
       let k = w .0 .0 in
       let low = pos-of-ne-zero (f .some-fault) in
       let small : k ≤ K = omega (arith, f .below) in
-      subst Says (sym (record-refused m fuel k (f .below) (f .earlier) low))
+      subst Says (sym (in-a-record hash s h fuel (standingAt s m) m (outBefore s m) k (f .below) (f .earlier) low))
       (in-record m k (f .below) refl (before-of m k p small (λ j l. record-rules hash s h (outBefore s m) m j .0 (f .earlier j l))) (open-of m k o small) refl low))
       (λ (good : (k : ℕ) → k < K → recordFault hash s h (outBefore s m) m k ≡ 0).
       let records : (k : ℕ) → k < K → RecordHolds hash s m k = λ k l. record-rules hash s h (outBefore s m) m k .0 (good k l) in
       by-cases (eqb (roundSheetFault s h m (dueAt s m)) 0)
       (λ z.
-      let f = eqb-true _ _ z in
-      let sheet = round-sheet-rules s h m (dueAt s m) .0 f in
+      let sheet = round-sheet-rules s h m (dueAt s m) .0 (eqb-true _ _ z) in
       let p′ = passed-more p records sheet in
       by-cases (closesAt s m)
       (λ c.
       ⊎-elim
-      (λ (l : roundPlace s (suc m) ≡ length s). subst Says (sym (ends-here m fuel good f c (sym l))) (closing m p′ o c (sym l)))
+      (λ (l : roundPlace s (suc m) ≡ length s). subst Says (sym (ends-here m fuel records sheet c (sym l))) (closing m p′ o c (sym l)))
       (λ (l : roundPlace s (suc m) < length s).
-      subst Says (sym (bytes-remain m fuel good f c l))
+      subst Says (sym (bytes-remain m fuel records sheet c l))
       (at-end m refl (subst (HoldsBefore hash s) (sym (next-number m)) (before-of (suc m) 0 p′ (omega arith) (λ j l. absurd (omega arith)))) (open-of m K o (omega arith)) c l refl))
       (eq-or-lt-of-le (sheet-fits m sheet)))
-      (λ c. subst Says (sym (goes-on m fuel good f c)) (said fuel (suc m) p′ (extend (λ (r : ℕ). closesAt s r ≡ false) m o c) (omega arith))))
+      (λ c. rw (goes-on m fuel records sheet, c) (said fuel (suc m) p′ (extend (λ (r : ℕ). closesAt s r ≡ false) m o c) (omega arith))))
       (λ z.
       let low = pos-of-ne-zero (eqb-false _ _ z) in
-      subst Says (sym (sheet-refused m fuel good low)) (in-sheet m refl (before-of m K p (omega arith) records) (open-of m K o (omega arith)) refl low)))
+      subst Says (sym (in-the-sheet hash s h fuel (standingAt s m) m (outBefore s m) good low)) (in-sheet m refl (before-of m K p (omega arith) records) (open-of m K o (omega arith)) refl low)))
       (faulty-or-none K (recordFault hash s h (outBefore s m) m))
 
   board-said : Says (checkBoard hash s)
@@ -230,15 +217,10 @@ module _ (hash : List ℕ → List ℕ) (s : List ℕ) where
   accepts rounds order winner w =
       let m = w .last in
       let one : m < rounds = omega (arith, w .rounds-are) in
-      let p : Passed m =
-      record {
-        head = w .head;
-        records = λ r k l. w .records r k (omega arith);
-        sheets = λ r l. w .sheets r (omega arith);
-      } in
+      let p : Passed m = record { head = w .head; records = λ r k l. w .records r k (omega arith); sheets = λ r l. w .sheets r (omega arith) } in
       let whole : length s ≡ roundPlace s (suc m) = rw (w .rounds-are, add-one) at (w .ends) in
       reached m p (w .not-before)
-      ∙ ends-here m _ (λ k l. record-rules hash s h (outBefore s m) m k .1 (w .records m k one l)) (round-sheet-rules s h m (dueAt s m) .1 (w .sheets m one)) (w .closed) whole
+      ∙ ends-here m _ (λ k. w .records m k one) (w .sheets m one) (w .closed) whole
       ∙ cc (w .rounds-are, w .order-is, w .winner-is)
 
   refuses : (refusal number : ℕ) → FirstBroken hash s refusal number → checkBoard hash s ≡ refused refusal number
@@ -246,18 +228,15 @@ module _ (hash : List ℕ → List ℕ) (s : List ℕ) where
   refuses refusal number (in-header e broken low) = rw (ne-eqb (headerFault hash ranked s) 0 (λ z. omega arith), broken, e)
   refuses refusal number (in-record m k l e before o broken low) =
       let w = rw e at before in
-      reached m (passed-of m k w) (of-open m k (rw e at o)) ∙ record-refused m _ k l (round-of m k (omega arith) w) (rw broken low) ∙ cc
+      reached m (passed-of m k w) (of-open m k (rw e at o)) ∙ in-a-record hash s h _ (standingAt s m) m (outBefore s m) k l (round-of m k (omega arith) w) (rw broken low) ∙ cc
   refuses refusal number (in-sheet m e before o broken low) =
       let w = rw e at before in
-      reached m (passed-of m K w) (of-open m K (rw e at o)) ∙ sheet-refused m _ (round-of m K (omega arith) w) (rw broken low) ∙ cc
+      reached m (passed-of m K w) (of-open m K (rw e at o)) ∙ in-the-sheet hash s h _ (standingAt s m) m (outBefore s m) (round-of m K (omega arith) w) (rw broken low) ∙ cc
   refuses refusal number (at-end m e before o closed remain numbered) =
       let p = passed-of (suc m) 0 (rw (e, next-number m) at before) in
       reached m (passed-fewer p) (of-open m K o)
-      ∙ bytes-remain m _ (λ k l. record-rules hash s h (outBefore s m) m k .1 (p .records m k (omega arith) l)) (round-sheet-rules s h m (dueAt s m) .1 (p .sheets m (omega arith))) closed remain
+      ∙ bytes-remain m _ (λ k. p .records m k (omega arith)) (p .sheets m (omega arith)) closed remain
       ∙ cc
-
-  says : (v : Verdict) → checkBoard hash s ≡ v → Says v
-  says v e = subst Says e board-said
 
   either : ((rounds : ℕ) × (order : List ℕ) × (winner : ℕ) × EveryRuleHolds hash s rounds order winner) ⊎ ((refusal : ℕ) × (number : ℕ) × FirstBroken hash s refusal number)
   either = go (checkBoard hash s) board-said
@@ -269,8 +248,8 @@ module _ (hash : List ℕ → List ℕ) (s : List ℕ) where
 pub second-demand : (hash : List ℕ → List ℕ) → SecondDemand hash
 second-demand hash =
     record {
-      accepted-iff = λ s rounds order winner. (says hash s (accepted rounds order winner), accepts hash s rounds order winner);
-      refused-iff = λ s refusal number. (says hash s (refused refusal number), refuses hash s refusal number);
+      accepted-iff = λ s rounds order winner. (λ e. subst (Says hash s) e (board-said hash s), accepts hash s rounds order winner);
+      refused-iff = λ s refusal number. (λ e. subst (Says hash s) e (board-said hash s), refuses hash s refusal number);
       either = either hash;
       first-fails = first-fails;
       header-tests = header-rules hash;

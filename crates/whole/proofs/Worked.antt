@@ -2,7 +2,7 @@
 use Prim.Native.Nat.{ℕ, suc, _*_, _-_, _≤_, _<_}
 use mathlib.Core.Path.{_≡_, refl, _∙_}
 use mathlib.Core.Bool.{Bool, true, false, not, _&&_, and-false, or-true}
-use mathlib.Core.List.{List, [], _∷_}
+use mathlib.Core.List.{List}
 use native.Mathlib.Omega.{arith}
 use lib.Dec.{ltb, eqb}
 use lib.ListN.{replicate}
@@ -16,42 +16,17 @@ use Rattle.sha256.specs.Message as Message
 use Rattle.sha256.specs.Message.{sha256}
 use Rattle.group.specs.Arithmetic.{powMod}
 use Rattle.group.specs.Elements.{isElement}
-use Rattle.rules.specs.Group.{orders, derived, generators}
+use Rattle.rules.specs.Group.{orders, paired, derived, generators}
 use Rattle.rules.specs.Proofs.{statementHolds}
-use Rattle.rules.specs.Count.{Standing, roundNumber, start, member, countOf, leaves, lowest, majority, closes, isRanking, table, plainCount}
+use Rattle.rules.specs.Count.{Standing, roundNumber, member, countOf, lowest, majority, closes, isRanking, table, plainCount}
 use Rattle.rules.specs.Openings.{without}
 use Rattle.jobs.specs.Job.{needed, roundDraws, roundAt, boardLength}
 use Rattle.jobs.specs.Write.{Valid}
-use Rattle.whole.specs.Worked.{Pair, circle, smallJob, Circle, Worked}
+use Rattle.whole.specs.Worked.{small, Pair, circle, smallJob, Circle, Worked}
 use Rattle.whole.proofs.Complete.{written}
 
-statement-met : statementHolds 23 2 3 (record { left = 9; right = 13 }) 16 12 3 8 ≡ true
-unfolding statementHolds powMod
-statement-met = refl
-
-statement-unmet : statementHolds 23 2 3 (record { left = 9; right = 13 }) 16 12 3 7 ≡ false
-unfolding statementHolds powMod
-statement-unmet = refl
-
-five-one : Pair 5 1 4 13
-unfolding powMod
-five-one = record { first = refl; second = refl; opens = record { x-below = omega arith; v-below = omega arith; first = refl; second = refl } }
-
-five-zero : Pair 5 0 9 13
-unfolding powMod
-five-zero = record { first = refl; second = refl; opens = record { x-below = omega arith; v-below = omega arith; first = refl; second = refl } }
-
-seven-one : Pair 7 1 16 2
-unfolding powMod
-seven-one = record { first = refl; second = refl; opens = record { x-below = omega arith; v-below = omega arith; first = refl; second = refl } }
-
-product-tally : Pair 1 2 18 3
-unfolding powMod
-product-tally = record { first = refl; second = refl; opens = record { x-below = omega arith; v-below = omega arith; first = refl; second = refl } }
-
-one-out : (closes 4 start (8 ∷ 17 ∷ 16 ∷ 19 ∷ []) 60 ≡ false) × (leaves 4 start (8 ∷ 17 ∷ 16 ∷ 19 ∷ []) ≡ 1)
-unfolding closes lowest
-one-out = (refl, refl)
+pair : (x v : ℕ) → x < 11 → v < 11 → Pair x v (paired small x v) (powMod 23 3 x)
+pair x v a b = record { first = refl; second = refl; opens = record { x-below = a; v-below = b; first = refl; second = refl } }
 
 -- a process still in has more than half of 60
 abbrev over-half : Standing → (counts : List ℕ) (i : ℕ) → Bool
@@ -69,14 +44,6 @@ more-closes : (n i : ℕ) (st : Standing) (counts : List ℕ) → i < n → memb
 unfolding closes majority
 more-closes n i st counts l still e =
     rw (any-holds n i (over-half st counts) l (rw (still, e))) (or-true (eqb (roundNumber st) (n - 1)))
-
-two-struck : without 1 (without 4 (4 ∷ 2 ∷ 1 ∷ 3 ∷ [])) ≡ 2 ∷ 3 ∷ []
-unfolding without
-two-struck = refl
-
-one-each-way : plainCount 2 ((1 ∷ 2 ∷ []) ∷ (2 ∷ 1 ∷ []) ∷ []) ≡ record { rounds = 1; counts = (1 ∷ 1 ∷ []) ∷ []; order = []; winner = 1 }
-unfolding plainCount
-one-each-way = refl
 
 module _ (hash : List ℕ → List ℕ) (p q g0 counter : ℕ) (label draws : List ℕ) where
   circle-size : boardLength (circle p q g0 counter label draws) ≡ 2534
@@ -106,20 +73,21 @@ small-valid =
     }
 
 pub worked : Worked
+unfolding statementHolds powMod closes lowest without plainCount
 worked =
     record {
-      five-one = five-one;
-      five-zero = five-zero;
-      seven-one = seven-one;
+      five-one = pair 5 1 (omega arith) (omega arith);
+      five-zero = pair 5 0 (omega arith) (omega arith);
+      seven-one = pair 7 1 (omega arith) (omega arith);
       product = (refl, refl);
-      product-tally = product-tally;
-      met = statement-met;
-      unmet = statement-unmet;
-      goes-out = one-out;
+      product-tally = pair 1 2 (omega arith) (omega arith);
+      met = refl;
+      unmet = refl;
+      goes-out = (refl, refl);
       half = half-open;
       more = more-closes;
-      struck = two-struck;
-      each-way = one-each-way;
+      struck = refl;
+      each-way = refl;
       around = goes-around;
       made = small-made;
       small-valid = small-valid;

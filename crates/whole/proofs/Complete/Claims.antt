@@ -49,38 +49,31 @@ module _ (g : Parameters) (good : Good g) where
   pub pair-one : (b x : ℕ) → b % g .p ≡ g .g0 ^ x * g .g1 ^ 1 % g .p → over (g .p) (g .q) b (g .g1) % g .p ≡ g .g0 ^ x % g .p
   pair-one b x e = over-of b (g .g1) (g .g0 ^ x) (good .root1) (e ∙ cc (pow-suc (g .g1) 0, pow-zero (g .g1), one-mul (g .g1)))
 
+  -- with a base that is a root of 1
+  over-base : (base c x x' : ℕ) → base ^ g .q % g .p ≡ 1 → x ≤ g .q → base ^ x' * c % g .p ≡ base ^ (x' + (g .q - x)) * (base ^ x * c) % g .p
+  over-base base c x x' root l =
+      let k : x' + (g .q - x) + x ≡ x' + g .q = omega arith in
+      cc (
+        mul-assoc (base ^ (x' + (g .q - x))) (base ^ x) c,
+        pow-add base (x' + (g .q - x)) x,
+        k,
+        pow-add base x' (g .q),
+        mul-mod-left (base ^ x' * base ^ g .q) c (g .p),
+        mul-mod-right (base ^ x') (base ^ g .q) (g .p),
+        root,
+        mul-one (base ^ x'),
+        mul-mod-left (base ^ x') c (g .p),
+      )
+
   -- a pair over one that opens to the same v
   pub pair-over : (x x' v : ℕ) → x ≤ g .q →
       over (g .p) (g .q) (paired g x' v) (paired g x v) % g .p ≡ g .g0 ^ (x' + (g .q - x)) % g .p
   pair-over x x' v l =
-      let k : x' + (g .q - x) + x ≡ x' + g .q = omega arith in
-      let e : g .g0 ^ (x' + (g .q - x)) * (g .g0 ^ x * g .g1 ^ v) % g .p ≡ g .g0 ^ x' * g .g1 ^ v % g .p =
-      cc (
-        mul-assoc (g .g0 ^ (x' + (g .q - x))) (g .g0 ^ x) (g .g1 ^ v),
-        pow-add (g .g0) (x' + (g .q - x)) x,
-        k,
-        pow-add (g .g0) x' (g .q),
-        mul-mod-left (g .g0 ^ x' * g .g0 ^ g .q) (g .g1 ^ v) (g .p),
-        mul-mod-right (g .g0 ^ x') (g .g0 ^ g .q) (g .p),
-        good .root0,
-        mul-one (g .g0 ^ x'),
-        mul-mod-left (g .g0 ^ x') (g .g1 ^ v) (g .p),
-      ) in
       over-of _ _ (g .g0 ^ (x' + (g .q - x))) (pair-root g good x v)
-      (paired-mod g x' v ∙ sym e ∙ rw (paired-is g x v) (sym (mul-mod-right (g .g0 ^ (x' + (g .q - x))) (g .g0 ^ x * g .g1 ^ v) (g .p))))
+      (paired-mod g x' v ∙ over-base (g .g0) (g .g1 ^ v) x x' (good .root0) l ∙ rw (paired-is g x v) (sym (mul-mod-right (g .g0 ^ (x' + (g .q - x))) (g .g0 ^ x * g .g1 ^ v) (g .p))))
 
   pub power-over : (x x' : ℕ) → x ≤ g .q → over (g .p) (g .q) (powMod (g .p) (g .g1) x') (powMod (g .p) (g .g1) x) % g .p ≡ g .g1 ^ (x' + (g .q - x)) % g .p
   unfolding powMod
   power-over x x' l =
-      let k : x' + (g .q - x) + x ≡ x' + g .q = omega arith in
-      let e : g .g1 ^ (x' + (g .q - x)) * g .g1 ^ x % g .p ≡ g .g1 ^ x' % g .p =
-      cc (
-        pow-add (g .g1) (x' + (g .q - x)) x,
-        k,
-        pow-add (g .g1) x' (g .q),
-        mul-mod-right (g .g1 ^ x') (g .g1 ^ g .q) (g .p),
-        good .root1,
-        mul-one (g .g1 ^ x'),
-      ) in
       over-of _ _ (g .g1 ^ (x' + (g .q - x))) (power-root g good x)
-      (mod-mod _ (g .p) ∙ sym e ∙ sym (mul-mod-right (g .g1 ^ (x' + (g .q - x))) (g .g1 ^ x) (g .p)))
+      (mod-mod _ (g .p) ∙ rw (mul-one (g .g1 ^ x'), mul-one (g .g1 ^ x)) at (over-base (g .g1) 1 x x' (good .root1) l) ∙ sym (mul-mod-right (g .g1 ^ (x' + (g .q - x))) (g .g1 ^ x) (g .p)))

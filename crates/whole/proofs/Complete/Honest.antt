@@ -148,20 +148,14 @@ module _ (hash : List ℕ → List ℕ) (label : List ℕ) (g : Parameters) (pr 
       read-both : part s (statementAt at statements l i) 8 ≡ both l i
       read-both = part-stands refl (stands-left (both l i) _ statement-stands)
 
-      first-root : claim l i .left ^ g .q % g .p ≡ 1
-      first-root = h .root-left l i a b
-
-      second-root : claim l i .right ^ g .q % g .p ≡ 1
-      second-root = h .root-right l i a b
-
       read-first : number4 s (statementAt at statements l i) ≡ commit (g .g0) (claim l i .left) l i
       read-first =
-          word-stands (omega (arith, commitment-below h (g .g0) (claim l i .left) l i a b (h .good .root0) first-root, h .good))
+          word-stands (omega (arith, commitment-below h (g .g0) (claim l i .left) l i a b (h .good .root0) (h .root-left l i a b), h .good))
           (stands-left (bytes4 (commit (g .g0) (claim l i .left) l i)) _ statement-stands)
 
       read-second : number4 s (statementAt at statements l i + 4) ≡ commit (g .g1) (claim l i .right) l i
       read-second =
-          word-stands (omega (arith, commitment-below h (g .g1) (claim l i .right) l i a b (h .good .root1) second-root, h .good))
+          word-stands (omega (arith, commitment-below h (g .g1) (claim l i .right) l i a b (h .good .root1) (h .root-right l i a b), h .good))
           (stands-left (bytes4 (commit (g .g1) (claim l i .right) l i)) _ (stands-right (bytes4 (commit (g .g0) (claim l i .left) l i)) _ refl statement-stands))
 
       read-response : number4 s (statementAt at statements l i + 8) ≡ response l i
@@ -172,8 +166,8 @@ module _ (hash : List ℕ → List ℕ) (label : List ℕ) (g : Parameters) (pr 
     honest-fields =
         record {
           e-below = λ l a. rw (read-challenge l a) (challenge-below h l a);
-          t1-element = λ l i a b. rw (read-first l i a b) (commitment-element h (g .g0) (claim l i .left) l i a b (h .good .root0) (first-root l i a b));
-          t2-element = λ l i a b. rw (read-second l i a b) (commitment-element h (g .g1) (claim l i .right) l i a b (h .good .root1) (second-root l i a b));
+          t1-element = λ l i a b. rw (read-first l i a b) (commitment-element h (g .g0) (claim l i .left) l i a b (h .good .root0) (h .root-left l i a b));
+          t2-element = λ l i a b. rw (read-second l i a b) (commitment-element h (g .g1) (claim l i .right) l i a b (h .good .root1) (h .root-right l i a b));
           r-below = λ l i a b. rw (read-response l i a b) (response-below h l i a b);
         }
 
@@ -185,10 +179,10 @@ module _ (hash : List ℕ → List ℕ) (label : List ℕ) (g : Parameters) (pr 
         record {
           first = λ l i a b.
               rw (same l i a b, read-first l i a b, read-response l i a b, read-challenge l a)
-              (equation h (g .g0) (claim l i .left) l i a b (h .good .root0) (first-root l i a b) (λ e. rw e (h .known-left i b)) ∙ sym (mul-mod-right _ _ (g .p)));
+              (equation h (g .g0) (claim l i .left) l i a b (h .good .root0) (h .root-left l i a b) (λ e. rw e (h .known-left i b)) ∙ sym (mul-mod-right _ _ (g .p)));
           second = λ l i a b.
               rw (same l i a b, read-second l i a b, read-response l i a b, read-challenge l a)
-              (equation h (g .g1) (claim l i .right) l i a b (h .good .root1) (second-root l i a b) (λ e. rw e (h .known-right i b)) ∙ sym (mul-mod-right _ _ (g .p)));
+              (equation h (g .g1) (claim l i .right) l i a b (h .good .root1) (h .root-right l i a b) (λ e. rw e (h .known-right i b)) ∙ sym (mul-mod-right _ _ (g .p)));
           adds-up =
               rw (
                 sum-same branches (λ l. number4 s (branchAt at statements l)) challenge read-challenge,

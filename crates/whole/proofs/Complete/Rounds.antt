@@ -14,7 +14,7 @@ use Rattle.group.specs.Elements.{Parameters}
 use Rattle.rules.specs.Records.{recordLength, sheetLength}
 use Rattle.rules.specs.Count.{Standing, next}
 use Rattle.rules.specs.Header.{Header, header}
-use Rattle.rules.specs.Check.{Verdict, accepted, roundsRead, place, outField, counts, ending, roundVerdict, checkFrom, matrix}
+use Rattle.rules.specs.Check.{accepted, roundsRead, place, outField, counts, ending, checkFrom, matrix}
 use Rattle.jobs.specs.Job.{Job, groupOf, headerOf, rankingOf, remaining, plainResult, recordDraws, roundDraws, roundAt}
 use Rattle.jobs.specs.Board.{jobMatrix, recordBytes, roundsFrom, jobSheet}
 use Rattle.rules.specs.Openings.{OpensTo, listAt}
@@ -143,9 +143,9 @@ module _ (hash : List ℕ → List ℕ) (job : Job) where
         sheet-good =
             sheet-kept hash job (st .gone) m f s _ (cond closing 0 leaving) sheet-stands (matrix s h m) (job .n - m) (omega (arith, r .count .early)) (λ k l. round-records k l .1)
 
-        verdict-is : (later : Verdict) → roundVerdict hash s h st m a later ≡ cond closing (ending s h st m) later
-        verdict-is later =
-            round-read hash s h st m a later (λ k l. record-rules hash s h a m k .1 (round-records k l .0)) (rw round-counts (round-sheet-rules s h m _ .1 sheet-good)) ∙ rw round-counts
+        verdict-is : checkFrom hash s h (suc fuel) st m a ≡ cond closing (ending s h st m) (checkFrom hash s h fuel (next (job .n) st C) (suc m) leaving)
+        verdict-is =
+            round-read hash s h fuel st m a (λ k l. record-rules hash s h a m k .1 (round-records k l .0)) (rw round-counts (round-sheet-rules s h m _ .1 sheet-good)) ∙ rw round-counts
 
         -- its matrices open
         round-opens : (k : ℕ) → k < job .K → OpensTo g (job .n - m) (job .n) (matrix s h m k) (listAt s (rankingOf job) m k)
@@ -176,11 +176,11 @@ module _ (hash : List ℕ → List ℕ) (job : Job) where
 
         -- the round that closes the board
         closed : closing ≡ true → checkFrom hash s h (suc fuel) st m a ≡ accepted (plainResult job .rounds) (plainResult job .order) (plainResult job .winner)
-        unfolding checkFrom roundAt
+        unfolding roundAt
         closed e =
             let t : length tail ≡ sheetLength (job .n) = rw e (sheet-long 0) in
             let over : length s ≡ roundsRead s h (suc m) .place = omega (arith, tail-whole, round-is s h (suc m)) in
-            verdict-is _ ∙ rw e (rw (eq-eqb _ _ over, round-counts, plain-closed job (f .ranked) (r .count) e, r .count .sheeted))
+            verdict-is ∙ rw e (rw (eq-eqb _ _ over, round-counts, plain-closed job (f .ranked) (r .count) e, r .count .sheeted))
 
         next-listed : closing ≡ false → (k : ℕ) → listAt s (rankingOf job) (suc m) k ≡ remaining (st .gone ++ (leaving ∷ [])) (rankingOf job k)
         unfolding listAt
@@ -190,10 +190,6 @@ module _ (hash : List ℕ → List ℕ) (job : Job) where
             rw (o, r .listed k) (strike leaving (st .gone) (rankingOf job k))
 
         -- a round after which others come
-        going : closing ≡ false → checkFrom hash s h (suc fuel) st m a ≡ checkFrom hash s h fuel (next (job .n) st C) (suc m) leaving
-        unfolding checkFrom
-        going e = verdict-is _ ∙ rw e (rw round-counts)
-
         opened : closing ≡ false → Reach fuel (next (job .n) st C) (suc m) (st .gone) leaving
         unfolding roundAt
         opened e =
@@ -223,7 +219,7 @@ module _ (hash : List ℕ → List ℕ) (job : Job) where
           ))
           (λ e.
           let ih = rounds fuel _ (suc m) _ _ (opened fuel st m before a r e) in (
-            going fuel st m before a r e ∙ ih .0,
+            verdict-is fuel st m before a r ∙ rw e (ih .0),
             λ m' k l b c.
                 ⊎-elim
                 (λ (q : m ≡ m').
