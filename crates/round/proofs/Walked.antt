@@ -1,21 +1,21 @@
 -- The ballots' records of a round, read one after another.
 use Prim.Native.Nat.{ℕ, suc, _+_, _*_, _-_, _^_, _≤_, _<_}
-use mathlib.Core.Path.{_≡_, sym, subst, _∙_}
+use mathlib.Core.Path.{_≡_, subst, _∙_}
 use mathlib.Core.List.{List}
-use mathlib.Core.Option.{none}
 use native.Mathlib.Nat.{mul-le-mul-right}
 use native.Mathlib.Numerals.{add-one}
 use native.Mathlib.Omega.{arith}
 use lib.ListN.{length}
+use borrow.Author.Count.{below-more}
 use Rattle.sha256.specs.Message.{sha256}
 use Rattle.rules.specs.Records.{recordLength}
 use Rattle.rules.specs.Claims.{matrixAt}
-use Rattle.rules.specs.Tests.{faultBelow}
 use Rattle.rules.specs.Header.{ranked}
 use Rattle.rules.specs.Sheet as said
 use Rattle.rules.specs.Check.{position, place, recordNumber, recordsRead, recordFault}
 use Rattle.rules.specs.Answers.{refusalNumber}
 use Rattle.rules.specs.declared.Refusal.{Refusal}
+use Rattle.rules.proofs.Faults.{no-fault, fault-at}
 use Rattle.rules.proofs.Positions.{holds-pairs, number-is, no-row}
 use Rattle.records.specs.declared.Fault.the-variants.{Sound, Refused}
 use Rattle.records.specs.declared.Head.{Head}
@@ -26,7 +26,7 @@ use Rattle.records.proofs.Products.{tallied-fewer}
 use Rattle.round.specs.declared.Round.{Round}
 use Rattle.round.specs.Rounds.{Begins}
 use Rattle.round.specs.Outcomes.{Searched}
-use Rattle.round.proofs.FirstFault.{positive, none-yet, none-more, first-fault}
+use Rattle.round.proofs.FirstFault.{positive}
 use Rattle.round.proofs.Beginnings.{Earlier, earlier-first, earlier-next}
 
 -- a record holds the first row of its matrix
@@ -47,7 +47,7 @@ pub record Walked (s : List ℕ) (h : Head) (r : Round) (k at before number : �
   pub numbered : number ≡ recordNumber s (headOf s h) (r .m) k
   pub earlier : Earlier s h (r .m) k before
   pub tallied : Tallied (h .setup .group .p) (h .n) t (position s (headOf s h) (r .m) k .tally)
-  pub sound : faultBelow k (recordFault sha256 s (headOf s h) (r .a) (r .m)) ≡ none
+  pub sound : (j : ℕ) → j < k → recordFault sha256 s (headOf s h) (r .a) (r .m) j ≡ 0
 
 module _ (s : List ℕ) (h : Head) (known : HeaderKnown ranked s h) (r : Round) where
   pub walked-none : (at : ℕ) → Begins s h at r → (t : Tally) → Tallied (h .setup .group .p) 8 t said.noRow → Walked s h r 0 at (r .before) (r .number) t
@@ -60,7 +60,7 @@ module _ (s : List ℕ) (h : Head) (known : HeaderKnown ranked s h) (r : Round) 
         numbered = b .numbered;
         earlier = earlier-first s h at r b;
         tallied = rw (no-row s (headOf s h) (r .m)) (tallied-fewer (known .high) w);
-        sound = none-yet _;
+        sound = λ j l. absurd (omega arith);
       }
 
   module _ (at : ℕ) (b : Begins s h at r) {k place before number : ℕ} {t : Tally} (w : Walked s h r k place before number t) where
@@ -81,15 +81,15 @@ module _ (s : List ℕ) (h : Head) (known : HeaderKnown ranked s h) (r : Round) 
             numbered = rw (add-one k, w .numbered);
             earlier = earlier-next s h at r b k before l (w .earlier) size first later;
             tallied = rw (add-one k) (rw (w .here) at (row _ (w .tallied)));
-            sound = none-more _ k (w .sound) f;
+            sound = below-more _ _ (w .sound) f;
           }
 
       pub searched-refused : (why : Refusal) → recordFault sha256 s (headOf s h) (r .a) (r .m) k ≡ refusalNumber why → Searched s h (r .a) (r .m) (Refused why) place number t
       unfolding Searched
-      searched-refused why f = (k, l, first-fault _ (h .k) k (refusalNumber why) l (w .sound) (sym f) (positive why), w .numbered)
+      searched-refused why f = (k, l, rw (← f) (fault-at (h .k) _ k l (w .sound) (λ z. omega (arith, positive why))), w .numbered)
 
     pub searched-all : k ≡ h .k → Searched s h (r .a) (r .m) Sound place number t
     unfolding Searched
     searched-all e =
         let v = subst (λ (k : ℕ). Walked s h r k place before number t) e w in
-        (v .sound, v .here, v .fits, v .numbered, v .tallied)
+        (no-fault _ _ (v .sound), v .here, v .fits, v .numbered, v .tallied)
