@@ -1,8 +1,9 @@
 -- The refusals of the checker and of the writer name what is there.
 use Prim.Native.Nat.{ℕ, zero, suc, _+_, _*_, _-_, _≤_, _<_}
 use mathlib.Core.Path.{_≡_, refl, sym, _∙_}
-use mathlib.Core.Bool.{Bool, true, false, cond, _&&_, true≢false, and-eq-true-iff}
+use mathlib.Core.Bool.{true, false, true≢false, and-eq-true-iff}
 use mathlib.Core.List.{List, [], _∷_, _++_, append-assoc}
+use mathlib.Core.Logic.{_⊎_, inl, inr}
 use native.Mathlib.Nat.{mul-le-mul-right}
 use native.Mathlib.Omega.{arith}
 use lib.Dec.{eqb}
@@ -10,7 +11,7 @@ use lib.ListN.{length, length-append}
 use borrow.Author.Tests.{leb-true, eqb-true, eqb-false, eq-eqb, ne-eqb}
 use Rattle.rules.specs.Count.{countsOf, countFrom, plainCount, member, Standing, start, next, closes, isRanking}
 use Rattle.jobs.specs.Job.{Job, rankingOf}
-use Rattle.jobs.specs.Write.{rankingsGood, jobFault, firstBad, badRanking, boardWritten, jobRefused, writeOutcome}
+use Rattle.jobs.specs.Write.{rankingsGood, jobFault, firstBad, badRanking, jobRefused, writeOutcome}
 use Rattle.numbers.proofs.Search.{extend}
 use Rattle.rules.specs.Tests.{Test, firstFault}
 use Rattle.rules.specs.Header.{ranked, sizes, Header, header, headerFault}
@@ -19,9 +20,10 @@ use Rattle.rules.specs.Shift.{shiftFault}
 use Rattle.rules.specs.Sheet.{sheetFields, sheetFault}
 use Rattle.rules.specs.Check.{roundsRead, refused, recordFault, roundSheetFault, checkBoard}
 use Rattle.whole.specs.Refusals.{BoardRefusal, JobRefusal, Refusals}
-use Rattle.numbers.proofs.Tests.{by-cases, or-false-left, and-true, all-true}
+use Rattle.numbers.proofs.Tests.{by-cases, and-true, all-true}
 use Rattle.jobs.proofs.FineJob.{valid, no-refusal}
 use Rattle.rules.proofs.Faults.{fault-none, fault-is}
+use Rattle.rules.proofs.Leaving.{not-last}
 use Rattle.rules.proofs.Positions.{number-is}
 use Rattle.whole.proofs.Sound.Accepted.{header-good}
 use Rattle.whole.specs.SecondDemand.{roundPlace, outBefore, dueAt, sheetNumber, FirstBroken, in-header, in-record, in-sheet, at-end}
@@ -109,43 +111,25 @@ module _ (hash : List ℕ → List ℕ) (s : List ℕ) where
           named m refusal number (passed-fewer hash s (passed-of hash s (suc m) 0 (rw (q, next-number hash s m) at before))) (of-open hash s m (header s .K) o) (omega arith) (omega arith) (omega arith)
 
 -- ---- jobs
-written-not-refused : {l rounds winner number w : ℕ} {order : List ℕ} → boardWritten l rounds order winner ≡ jobRefused number w → ⊥
-written-not-refused e = let z : _≡_ {A = ℕ} 0 1 = cc in omega arith
-
-job-same : {a b c d : ℕ} → jobRefused a b ≡ jobRefused c d → (a ≡ c) × (b ≡ d)
-job-same e = (cc, cc)
-
 abbrev Numbers : List ℕ
 Numbers = 3 ∷ 4 ∷ 5 ∷ 13 ∷ 14 ∷ 15 ∷ []
 
--- the first bad ranking among the first k
-record FirstBad (job : Job) (k bad : ℕ) : Type 0 where
-  none-bad : bad ≡ 0 → (i : ℕ) → i < k → isRanking (job .n) (rankingOf job i) ≡ true
-  one-bad : (i : ℕ) → bad ≡ suc i → (i < k) × (isRanking (job .n) (rankingOf job i) ≡ false) × ((j : ℕ) → j < i → isRanking (job .n) (rankingOf job j) ≡ true)
-
-first-bad : (job : Job) (k : ℕ) → FirstBad job k (firstBad job k)
+-- no ranking among the first k is bad, or one is the first
+first-bad : (job : Job) (k : ℕ) →
+    ((firstBad job k ≡ 0) × ((i : ℕ) → i < k → isRanking (job .n) (rankingOf job i) ≡ true))
+    ⊎ ((i : ℕ) × (firstBad job k ≡ suc i) × (i < k) × (isRanking (job .n) (rankingOf job i) ≡ false) × ((j : ℕ) → j < i → isRanking (job .n) (rankingOf job j) ≡ true))
 unfolding firstBad
-first-bad job zero = record { none-bad = λ e i l. absurd (omega arith); one-bad = λ i e. absurd (omega arith) }
-first-bad job (suc k) = go (firstBad job k) (isRanking (job .n) (rankingOf job k)) refl (first-bad job k)
-  where
-    go : (bad : ℕ) (good : Bool) → isRanking (job .n) (rankingOf job k) ≡ good → FirstBad job k bad →
-        FirstBad job (suc k) (cond (eqb bad 0) (cond good 0 (suc k)) bad)
-    go zero true e w =
-        record {
-          none-bad = λ _. extend (λ (i : ℕ). isRanking (job .n) (rankingOf job i) ≡ true) k (w .none-bad refl) e;
-          one-bad = λ i z. absurd (omega arith);
-        }
-    go zero false e w =
-        record {
-          none-bad = λ z. absurd (omega arith);
-          one-bad = λ i q. let same : i ≡ k = omega arith in rw same (omega arith, e, w .none-bad refl);
-        }
-    go (suc bad) good e w =
-        rw (ne-eqb (suc bad) 0 (λ z. omega arith))
-        (record {
-          none-bad = λ z. absurd (omega arith);
-          one-bad = λ i q. let o = w .one-bad i q in (omega (arith, o .0), o .1, o .2);
-        })
+first-bad job zero = inl (refl, λ i l. absurd (omega arith))
+first-bad job (suc k) = elim (first-bad job k) [
+  | inl z ↦
+      by-cases (isRanking (job .n) (rankingOf job k))
+      (λ e. inl (rw (z .0, e), extend (λ (i : ℕ). isRanking (job .n) (rankingOf job i) ≡ true) k (z .1) e))
+      (λ e. inr (k, rw (z .0, e), omega arith, e, z .1))
+  | inr o ↦ inr (o .0, rw (o .1, ne-eqb (suc (o .0)) 0 (λ z. omega arith)), omega (arith, o .2), o .3, o .4)
+]
+
+low-bad : (job : Job) → firstBad job (job .K) ≤ job .K
+low-bad job = elim (first-bad job (job .K)) [ inl z ↦ omega (arith, z .0) | inr o ↦ omega (arith, o .1, o .2) ]
 
 job-number : (hash : List ℕ → List ℕ) (job : Job) (room : ℕ) → member (jobFault hash job room) (0 ∷ Numbers) ≡ true
 unfolding jobFault member
@@ -180,35 +164,25 @@ job-named hash job room ne =
       numbered = rw (ne-eqb fault 0 ne) at (job-number hash job room);
       others = λ z. rw (ne-eqb fault 13 z);
       wrong-length = λ z. rw (ne-eqb (length (job .rankings)) (job .K * job .n) z) (by-cases (eqb fault 13) (λ e. rw e) (λ e. rw e));
-      first-bad = λ z l. rw (eq-eqb fault 13 z, eq-eqb (length (job .rankings)) (job .K * job .n) l) (go (firstBad job (job .K)) (first-bad job (job .K)) z l);
-      most = low-which (eqb fault 13) (eqb (length (job .rankings)) (job .K * job .n)) refl;
+      first-bad = λ z l. rw (eq-eqb fault 13 z, eq-eqb (length (job .rankings)) (job .K * job .n) l)
+          (elim (first-bad job (job .K)) [ inl w ↦ absurd (rankings-bad hash job room (and-true (eq-eqb _ _ l) (all-true (job .K) _ (w .1))) z) | inr o ↦ o ]);
+      most = by-cases (eqb fault 13)
+          (λ e. by-cases (eqb (length (job .rankings)) (job .K * job .n))
+          (λ l. rw (e, l) (omega (arith, low-bad job, few-rankings hash job room (eqb-true _ _ e)))) (λ l. rw (e, l) (omega arith)))
+          (λ e. rw e (omega arith));
     }
-  where
-    go : (bad : ℕ) → FirstBad job (job .K) bad → jobFault hash job room ≡ 13 → length (job .rankings) ≡ job .K * job .n →
-        (k : ℕ) × (bad ≡ suc k) × (k < job .K) × (isRanking (job .n) (rankingOf job k) ≡ false) × ((i : ℕ) → i < k → isRanking (job .n) (rankingOf job i) ≡ true)
-    go zero w z l =
-        absurd (rankings-bad hash job room (and-true (eq-eqb _ _ l) (all-true (job .K) _ (w .none-bad refl))) z)
-    go (suc k) w z l = let o = w .one-bad k refl in (k, refl, o .0, o .1, o .2)
-
-    low-bad : (bad : ℕ) → FirstBad job (job .K) bad → bad ≤ job .K
-    low-bad zero w = omega arith
-    low-bad (suc k) w = omega (arith, w .one-bad k refl .0)
-
-    low-which : (due long : Bool) → eqb (jobFault hash job room) 13 ≡ due → cond (due && long) (firstBad job (job .K)) 0 ≤ 1000
-    low-which true true e =
-        omega (arith, low-bad _ (first-bad job (job .K)), few-rankings hash job room (eqb-true _ _ e))
-    low-which true false e = omega arith
-    low-which false long e = omega arith
 
 pub job-refusal : (hash : List ℕ → List ℕ) (job : Job) (room number w : ℕ) → writeOutcome hash job room ≡ jobRefused number w → JobRefusal job number w
 unfolding writeOutcome
-job-refusal hash job room number w e = go (eqb (jobFault hash job room) 0) refl
-  where
-    go : (b : Bool) → eqb (jobFault hash job room) 0 ≡ b → JobRefusal job number w
-    go true z = absurd (written-not-refused (rw (z, writeOutcome) at e))
-    go false z =
-        let q = job-same (rw (z, writeOutcome) at e) in
-        rw (← (q .0), ← (q .1)) (job-named hash job room (eqb-false (jobFault hash job room) 0 z))
+job-refusal hash job room number w e =
+    let fault = jobFault hash job room in
+    by-cases (eqb fault 0)
+    (λ z. let q = rw (z, writeOutcome) at e in let y : _≡_ {A = ℕ} 0 1 = cc in absurd (omega arith))
+    (λ z.
+    let q : jobRefused fault (badRanking job fault) ≡ jobRefused number w = rw (z, writeOutcome) at e in
+    let same-number : fault ≡ number = cc in
+    let same-ranking : badRanking job fault ≡ w = cc in
+    rw (← same-number, ← same-ranking) (job-named hash job room (eqb-false fault 0 z)))
 
 -- ---- the plain count
 module _ (n : ℕ) (rankings : List (List ℕ)) where
@@ -226,8 +200,7 @@ module _ (n : ℕ) (rankings : List (List ℕ)) where
       (λ e. rw e (omega arith, refl))
       (λ e.
       let more : length (st .sheets ++ (C ∷ [])) ≡ length (st .sheets) + 1 = length-append (st .sheets) (C ∷ []) in
-      let not-last = eqb-false (length (st .sheets) + 1) (n - 1) (or-false-left _ _ (unfold closes in e)) in
-      rw e (count-ends fuel extra (next n st C) (omega arith) (omega arith))))
+      rw e (count-ends fuel extra (next n st C) (omega arith) (omega (arith, not-last n _ st C _ refl e)))))
 
 pub count-limit : (n extra : ℕ) (rankings : List (List ℕ)) → 2 ≤ n →
     (plainCount n rankings .rounds ≤ n - 1) × (countFrom n rankings (n + extra) start ≡ plainCount n rankings)

@@ -3,7 +3,7 @@ pub mod Tally
 pub mod Accepted
 use Prim.Native.Nat.{ℕ, zero, suc, _+_, _-_, _≤_, _<_}
 use mathlib.Core.Path.{_≡_, refl, sym, ap, subst, _∙_}
-use mathlib.Core.Bool.{Bool, true, false, cond}
+use mathlib.Core.Bool.{true, false, cond}
 use mathlib.Core.List.{List, [], _∷_, _++_}
 use mathlib.Core.Logic.{⊎-elim}
 use native.Mathlib.Nat.{eq-or-lt-of-le}
@@ -11,12 +11,12 @@ use native.Mathlib.Numerals.{add-one}
 use native.Mathlib.Omega.{arith}
 use lib.Dec.{eqb}
 use lib.ListN.{length}
-use borrow.Author.Tests.{eqb-false}
 use Rattle.numbers.specs.Below.{sumBelow}
 use Rattle.numbers.proofs.Search.{extend}
+use Rattle.rules.proofs.Leaving.{not-last}
 use Rattle.rules.proofs.Lists.{length-table, table-same, votes-table}
 use Rattle.jobs.proofs.Lists.{votes-sum, standing-all, first-standing, strike, ranked-processes}
-use Rattle.numbers.proofs.Tests.{or-false-left}
+use Rattle.numbers.proofs.Tests.{by-cases}
 use Rattle.numbers.proofs.Sums.{sum-same, sum-constant}
 use Rattle.whole.specs.ThirdDemand.{IsPlain, sheetsOn}
 use Rattle.rules.specs.Header.{Header, header}
@@ -29,10 +29,6 @@ use Rattle.whole.proofs.Sound.Tally.{counted}
 use Rattle.rules.specs.Count.{Standing, start, next, leaves, closes, table, firstIn, votesFor, countsOf, ended, countFrom, plainCount}
 use Rattle.jobs.specs.Job.{remaining}
 use Rattle.rules.specs.Openings.{Opening, listAt, Opens}
-
-one-vote : (b : Bool) → cond b 1 0 ≤ 1
-one-vote true = omega arith
-one-vote false = omega arith
 
 module _ (hash : List ℕ → List ℕ) (s : List ℕ) (rankings : ℕ → List ℕ) where
   abbrev h : Header
@@ -57,11 +53,8 @@ module _ (hash : List ℕ → List ℕ) (s : List ℕ) (rankings : ℕ → List 
   sheets-counted : (m : ℕ) (st : Standing) → Reached m st → length (st .sheets) ≡ m
   sheets-counted m st r = ap length (r .sheets) ∙ length-table m (counts s h)
 
-  gone-counted : (m : ℕ) (st : Standing) → Reached m st → length (st .gone) ≡ m
-  gone-counted m st r = ap length (r .outs) ∙ length-table m (outField s h)
-
   fewer : (m : ℕ) (st : Standing) → Reached m st → length (st .gone) < h .n
-  fewer m st r = let e : suc m < h .n = r .early in omega (arith, gone-counted m st r)
+  fewer m st r = omega (arith, r .early, ap length (r .outs) ∙ length-table m (outField s h))
 
   at-start : 2 ≤ h .n → Reached 0 start
   unfolding table listAt
@@ -70,13 +63,10 @@ module _ (hash : List ℕ → List ℕ) (s : List ℕ) (rankings : ℕ → List 
   -- after a sheet that does not close
   goes-on : (m : ℕ) (st : Standing) → Reached m st → closes (h .n) st (counts s h m) (h .K) ≡ false → outField s h m ≡ leaves (h .n) st (counts s h m) →
       Sheeted m → Reached (suc m) (next (h .n) st (counts s h m))
-  unfolding closes listAt table
+  unfolding listAt table
   goes-on m st r c e sheet =
-      let more = eqb-false (length (st .sheets) + 1) (h .n - 1) (or-false-left _ _ c) in
-      let not-yet : m + 1 ≡ h .n - 1 → ⊥ = λ w. more (cc (sheets-counted m st r)) in
-      let before : suc m < h .n = r .early in
       record {
-        early = omega arith;
+        early = omega (arith, r .early, not-last (h .n) m st _ (h .K) (sheets-counted m st r) c);
         sheets = ap (λ t. t ++ (counts s h m ∷ [])) (r .sheets);
         outs = cc (r .outs, e);
         lists = λ k. simp (r .lists k, e) (strike (leaves (h .n) st (counts s h m)) (st .gone) (rankings k));
@@ -94,7 +84,7 @@ module _ (hash : List ℕ → List ℕ) (s : List ℕ) (rankings : ℕ → List 
         counted (h .group) (good .orders) (good .generators)
         _ _ (λ k. cond (eqb (firstIn (h .n) (st .gone) (rankings k)) (suc i)) 1 0) _ _
         (λ k kl. opening k kl)
-        (λ k kl. one-vote (eqb (firstIn (h .n) (st .gone) (rankings k)) (suc i)))
+        (λ k _. by-cases (eqb (firstIn (h .n) (st .gone) (rankings k)) (suc i)) (λ e. rw e (omega arith)) (λ e. rw e (omega arith)))
         (sheet .counted i l) (sheet .tally-b i l) (sheet .tally-y i l)
         ∙ sym (votes-table (h .n) (st .gone) (h .K) rankings (suc i))
       where
@@ -115,13 +105,10 @@ module _ (hash : List ℕ → List ℕ) (s : List ℕ) (rankings : ℕ → List 
     all-marked m st r sheet =
         sum-same (suc m) _ (λ _. 1) (λ m′ b. extend Sheeted m (r .earlier) sheet m′ b .marked) ∙ omega (arith, sum-constant (suc m) 1)
 
-    all-counts : (m : ℕ) (st : Standing) → Reached m st → table (suc m) (counts s h) ≡ st .sheets ++ (counts s h m ∷ [])
-    unfolding table
-    all-counts m st r = ap (λ t. t ++ (counts s h m ∷ [])) (sym (r .sheets))
-
     -- the round that closes the board
     closing : (m : ℕ) → m ≡ w .last → Reached m (standingAt s m) → counts s h m ≡ countsOf (h .n) votes (standingAt s m .gone) → Sheeted m →
         IsPlain s rounds order winner (ended (h .n) (standingAt s m) (countsOf (h .n) votes (standingAt s m .gone)))
+    unfolding table
     closing m last r e sheet =
         let now : rounds ≡ suc m = omega (arith, w .rounds-are) in
         let before : rounds - 1 ≡ m = omega arith in
@@ -130,7 +117,7 @@ module _ (hash : List ℕ → List ℕ) (s : List ℕ) (rankings : ℕ → List 
           same-order = rw last (w .order-is);
           same-winner = rw (← e, last) (w .winner-is);
           same-sheets = rw now (all-marked m (standingAt s m) r sheet ∙ sym (cc (sheets-counted m (standingAt s m) r, add-one m)));
-          same-counts = rw (now, ← e) (all-counts m (standingAt s m) r);
+          same-counts = rw (now, ← e) (ap (λ t. t ++ (counts s h m ∷ [])) (sym (r .sheets)));
           same-outs = rw before (sym (r .outs));
           whole = w .ends;
           sums = λ m′ b. extend Sheeted m (r .earlier) sheet m′ (rw now at b) .summed;

@@ -74,12 +74,10 @@ module _ (hash : List ℕ → List ℕ) (job : Job) (gone : List ℕ) (m : ℕ) 
     field-stands i l =
         stands-moved (omega arith) (stands-block (job .n) 6 field (λ _ _. refl) (stands-right (82 ∷ 84 ∷ (m + 1) ∷ out ∷ []) (concatBelow (job .n) field) refl stands) i l)
 
-    read-count : (i : ℕ) → i < job .n → countAt s at i ≡ getD theCounts i 0
-    read-count i l =
-        half-stands (omega (arith, count-at i l, votes-below i, f .K-high)) (stands-left (bytes2 (getD theCounts i 0)) (bytes4 (secrets i % job .q)) (field-stands i l))
-
     counted : (i : ℕ) → i < job .n → countAt s at i ≡ votes i
-    counted i l = read-count i l ∙ count-at i l
+    counted i l =
+        half-stands (omega (arith, count-at i l, votes-below i, f .K-high)) (stands-left (bytes2 (getD theCounts i 0)) (bytes4 (secrets i % job .q)) (field-stands i l))
+        ∙ count-at i l
 
     read-s : (i : ℕ) → i < job .n → exponentAt s at i ≡ secrets i % job .q
     read-s i l =
