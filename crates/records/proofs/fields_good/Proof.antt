@@ -14,10 +14,7 @@ use Rattle.records.proofs.fields_good.Tie as tie
 first : (c : tie.After-known-told) →
     let a = c .before .before .before .before .before .args in
     (pairsFields (now (a .board)) (a .at + 4) (a .pairs) (a .p) (a .q) ≡ true) × (c .before .proofs .given .0 .0 ≡ a .at + 4 + 8 * a .pairs)
-first c =
-    let a = c .before .before .before .before .before .args in
-    walk-to (pairsFields (now (a .board)) (a .at + 4) (a .pairs) (a .p) (a .q)) (a .at + 4 + 8 * a .pairs) _
-    (sym (c .before .before .before .pairs-fields .ensures) ∙ c .before .proofs .given .1)
+first c = walk-to _ _ _ (sym (c .before .before .before .pairs-fields .ensures) ∙ c .before .proofs .given .1)
 
 returns : tie.Need-returns
 returns c =

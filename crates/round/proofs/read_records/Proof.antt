@@ -26,14 +26,14 @@ start c = c .before .before .before .before .before
 loop-holds : tie.Need-loop-holds Inv-loop μ-loop
 loop-holds c =
     let s = c .before .before .before in
-    walked-none (now (s .args .board)) (s .args .h) (s .pre .0) (s .args .round) (s .args .at) (s .pre .1) _ (c .none .ensures)
+    walked-none _ _ (s .pre .0) _ _ (s .pre .1) _ (c .none .ensures)
 
 read-record-requires : tie.Need-read-record-requires Inv-loop μ-loop
 read-record-requires c κs =
     let s = start c in
     let w = c .before .loop .inv in (
       (s .pre .0, w .fits, c .loop-test .taken, s .pre .1 .early, w .here),
-      earlier-at (now (s .args .board)) (s .args .h) (s .args .at) (s .args .round) (s .pre .1) _ _ (c .loop-test .taken) (w .earlier),
+      earlier-at _ _ _ _ (s .pre .1) _ _ (c .loop-test .taken) (w .earlier),
     )
 
 returns : tie.Need-returns Inv-loop μ-loop
@@ -41,7 +41,7 @@ unfolding Passes
 returns c =
     let l = c .before .before .before .before in
     let s = start l in
-    searched-refused (now (s .args .board)) (s .args .h) (s .pre .0) (s .args .round) (s .args .at) (s .pre .1) (l .before .loop .inv) (l .loop-test .taken) _
+    searched-refused _ _ (s .pre .0) _ _ (s .pre .1) (l .before .loop .inv) (l .loop-test .taken) _
     (rw (c .before .read .given .1) at (c .before .before .before .read-record .ensures))
 
 -- the record has no fault
@@ -59,7 +59,7 @@ with-row-requires c κs =
     let w = l .before .loop .inv in (
       s .pre .0 .ready .p-pos,
       s .pre .0 .high,
-      row-fits (now (s .args .board)) (s .args .h) (s .pre .0) (s .args .round) (s .args .at) (s .pre .1) w (l .loop-test .taken) (passed c .2),
+      row-fits _ _ (s .pre .0) _ _ (s .pre .1) w (l .loop-test .taken) (passed c .2),
       w .tallied .b-long,
       w .tallied .y-long,
     )
@@ -70,7 +70,7 @@ add-before c =
     let s = start l in
     omega (
       arith,
-      earlier-small (now (s .args .board)) (s .args .h) (s .args .at) (s .args .round) (s .pre .1) _ _ (l .loop-test .taken) (l .before .loop .inv .earlier),
+      earlier-small _ _ _ _ (s .pre .1) _ _ (l .loop-test .taken) (l .before .loop .inv .earlier),
       l .before .before .before .earlier-length .ensures .0,
       s .good,
     )
@@ -80,7 +80,7 @@ add-number c =
     let l = c .before .before .before .before .before in
     let s = start l in
     let w = l .before .loop .inv in
-    omega (arith, number-small (now (s .args .board)) (s .args .h) (s .pre .0) (s .args .round .m) _ _ (s .pre .1 .early) (w .few) (w .numbered))
+    omega (arith, number-small _ _ (s .pre .0) (s .args .round .m) _ _ (s .pre .1 .early) (w .few) (w .numbered))
 
 loop-again : tie.Need-loop-again Inv-loop μ-loop
 unfolding Passes
@@ -89,14 +89,14 @@ loop-again c =
     let s = start l in
     let p = passed (c .before) in
     let e = l .before .before .before .earlier-length .ensures in
-    walked-more (now (s .args .board)) (s .args .h) (s .pre .0) (s .args .round) (s .args .at) (s .pre .1) (l .before .loop .inv) (l .loop-test .taken) (p .0) _ (p .1) (p .2) _
+    walked-more _ _ (s .pre .0) _ _ (s .pre .1) (l .before .loop .inv) (l .loop-test .taken) (p .0) _ (p .1) (p .2) _
     (e .1) (e .2) _ (c .with-row .ensures)
 
 returns-2 : tie.Need-returns-2 Inv-loop μ-loop
 returns-2 c =
     let s = c .before .before .before .before .before in
     let w = c .before .loop .inv in
-    searched-all (now (s .args .board)) (s .args .h) (s .pre .0) (s .args .round) (s .args .at) (s .pre .1) w (omega (arith, w .few, c .loop-test .left))
+    searched-all _ _ (s .pre .0) _ _ (s .pre .1) w (omega (arith, w .few, c .loop-test .left))
 
 pub read-records-spec : {M : Type 1} → statement M
 read-records-spec =

@@ -1,4 +1,3 @@
-use denote.Ref.{now}
 use Prim.Native.Nat.{_*_, _-_, _≤_}
 use mathlib.Core.Path.{_≡_, sym, _∙_}
 use mathlib.Core.Bool.{true}
@@ -24,25 +23,14 @@ proof-good-requires c κs = (c .before .before .before .before .pre .0, (omega a
 
 returns : tie.Need-returns Inv-loop μ-loop
 unfolding claimOf
-returns c =
-    let a = c .before .before .before .before .before .before .args in
-    sym (all-fails (a .h .n * a .h .n) (c .before .before .before .before .loop .t) (entryGood (now (a .board)) (a .h) (a .at)) (omega arith)
-    (sym (c .before .proof-good .ensures) ∙ not-true _ (c .if1 .taken)))
+returns c = sym (all-fails _ (c .before .before .before .before .loop .t) _ (omega arith) (sym (c .before .proof-good .ensures) ∙ not-true _ (c .if1 .taken)))
 
 loop-again : tie.Need-loop-again Inv-loop μ-loop
 unfolding claimOf
-loop-again c =
-    let a = c .before .before .before .before .before .before .args in (
-      omega arith,
-      all-more _ (entryGood (now (a .board)) (a .h) (a .at)) (c .before .before .before .before .loop .inv .1)
-          (sym (c .before .proof-good .ensures) ∙ not-false _ (c .if1 .left)),
-    )
+loop-again c = (omega arith, all-more _ _ (c .before .before .before .before .loop .inv .1) (sym (c .before .proof-good .ensures) ∙ not-false _ (c .if1 .left)))
 
 returns-2 : tie.Need-returns-2 Inv-loop μ-loop
-returns-2 c =
-    let a = c .before .before .before .args in
-    sym (all-end (a .h .n * a .h .n) (c .before .loop .t) (entryGood (now (a .board)) (a .h) (a .at)) (c .before .loop .inv .0) (omega arith)
-    (c .before .loop .inv .1))
+returns-2 c = sym (all-end _ (c .before .loop .t) _ (c .before .loop .inv .0) (omega arith) (c .before .loop .inv .1))
 
 pub entries-good-spec : {M : Type 1} → statement M
 entries-good-spec =

@@ -60,23 +60,14 @@ checked c =
 
 returns : tie.Need-returns Inv-loop μ-loop
 returns c =
-    let a = c .before .before .before .before .before .before .before .before .before .args in
-    sym (all-fails (a .h .n + a .h .n) (c .before .before .before .before .before .before .before .loop .t) (lineGood (now (a .board)) (a .h) (a .at)) (omega arith)
-    (sym (checked (c .before)) ∙ not-true _ (c .if1 .taken)))
+    sym (all-fails _ (c .before .before .before .before .before .before .before .loop .t) _ (omega arith) (sym (checked (c .before)) ∙ not-true _ (c .if1 .taken)))
 
 loop-again : tie.Need-loop-again Inv-loop μ-loop
 loop-again c =
-    let a = c .before .before .before .before .before .before .before .before .before .args in (
-      omega arith,
-      all-more _ (lineGood (now (a .board)) (a .h) (a .at)) (c .before .before .before .before .before .before .before .loop .inv .1)
-          (sym (checked (c .before)) ∙ not-false _ (c .if1 .left)),
-    )
+    (omega arith, all-more _ _ (c .before .before .before .before .before .before .before .loop .inv .1) (sym (checked (c .before)) ∙ not-false _ (c .if1 .left)))
 
 returns-2 : tie.Need-returns-2 Inv-loop μ-loop
-returns-2 c =
-    let a = c .before .before .before .args in
-    sym (all-end (a .h .n + a .h .n) (c .before .loop .t) (lineGood (now (a .board)) (a .h) (a .at)) (c .before .loop .inv .0) (omega arith)
-    (c .before .loop .inv .1))
+returns-2 c = sym (all-end _ (c .before .loop .t) _ (c .before .loop .inv .0) (omega arith) (c .before .loop .inv .1))
 
 pub lines-good-spec : {M : Type 1} → statement M
 lines-good-spec =

@@ -4,16 +4,12 @@ use mathlib.Core.Path.{sym, _∙_}
 use native.Mathlib.Omega.{arith}
 use borrow.Author.Needs.{needs}
 use borrow.Author.Tests.{not-true, not-false}
-use Rattle.sha256.specs.Message.{sha256}
 use Rattle.rules.specs.Bytes.{number2}
 use Rattle.rules.specs.Records.{BA, ballotLength}
-use Rattle.rules.specs.Ballot.{ballotFault}
 use Rattle.rules.proofs.Sizes.{cells}
-use Rattle.records.specs.Heads.{headOf}
 use Rattle.records.specs.declared.Fault.the-variants.{Sound}
 use Rattle.records.specs.Faults.{Framed}
-use Rattle.records.specs.Parts.{ballotFieldsAt, ballotProofsAt}
-use Rattle.records.proofs.Framing.{FiveTests, wrong-frame, wrong-field, wrong-proof, all-sound}
+use Rattle.records.proofs.Framing.{wrong-frame, wrong-field, wrong-proof, all-sound}
 use Rattle.records.proofs.BallotTables.{ballot-table}
 use Rattle.records.proofs.ballot.read_ballot.Statement.{statement}
 use Rattle.records.proofs.ballot.read_ballot.Tie as tie
@@ -27,17 +23,9 @@ framed c = rw (c .before .before .before .ballot-length .ensures .0, c .enum-tol
 few : (c : tie.After-enum-told) → let a = c .before .before .before .before .before .before .args in a .h .n * a .h .n ≤ 64
 few c = cells (c .before .before .before .before .before .before .args .h .n) (c .before .before .before .before .before .before .pre .0 .high)
 
-table : (c : tie.After-group) →
-    let a = c .before .before .args in
-    FiveTests (now (a .board)) (a .at) (ballotLength (a .h .n)) BA (number2 (now (a .board)) (a .at + 2)) (a .number)
-    (ballotFieldsAt (now (a .board)) (a .h .n) (a .h .setup .group .p) (a .h .setup .group .q) (a .at))
-    (ballotProofsAt (now (a .board)) (a .h) (a .at))
-    (ballotFault sha256 (now (a .board)) (headOf (now (a .board)) (a .h)) (a .at) (a .number))
-table c = let a = c .before .before .args in ballot-table (now (a .board)) (a .h) (a .at) (a .number)
-
 returns : tie.Need-returns
 returns c =
-    wrong-frame (table (c .before .before .before .before .before)) _
+    wrong-frame (ballot-table _ (c .before .before .before .before .before .before .before .args .h) _ _) _
     (rw (c .before .before .before .before .ballot-length .ensures .0, c .before .framed .given .1) at (c .before .before .before .ballot-frame .ensures))
 
 fields-good-requires : tie.Need-fields-good-requires
@@ -46,7 +34,7 @@ fields-good-requires c κs = omega (arith, framed c .0)
 
 returns-2 : tie.Need-returns-2
 returns-2 c =
-    wrong-field (table (c .before .before .before .before .before .before)) (framed (c .before .before))
+    wrong-field (ballot-table _ (c .before .before .before .before .before .before .before .before .args .h) _ _) (framed (c .before .before))
     (sym (c .before .fields-good .ensures) ∙ not-true _ (c .if1 .taken))
 
 ballot-proofs-requires : tie.Need-ballot-proofs-requires
@@ -56,13 +44,13 @@ ballot-proofs-requires c κs = (c .before .before .before .before .before .befor
 returns-3 : tie.Need-returns-3
 returns-3 c =
     let f = c .before .before .before in
-    wrong-proof (table (f .before .before .before .before .before)) (framed (f .before))
+    wrong-proof (ballot-table _ (f .before .before .before .before .before .before .before .args .h) _ _) (framed (f .before))
     (sym (f .fields-good .ensures) ∙ not-false _ (c .before .before .if1 .left)) (sym (c .before .ballot-proofs .ensures) ∙ not-true _ (c .if2 .taken))
 
 returns-4 : tie.Need-returns-4
 returns-4 c =
     let f = c .before .before .before in
-    all-sound (table (f .before .before .before .before .before)) (framed (f .before))
+    all-sound (ballot-table _ (f .before .before .before .before .before .before .before .args .h) _ _) (framed (f .before))
     (sym (f .fields-good .ensures) ∙ not-false _ (c .before .before .if1 .left)) (sym (c .before .ballot-proofs .ensures) ∙ not-false _ (c .if2 .left))
     _ (omega (arith, f .before .before .before .before .ballot-length .ensures .0))
 

@@ -1,9 +1,7 @@
 use denote.Ref.{now}
-use Prim.Native.Nat.{_+_}
 use mathlib.Core.Path.{sym, _∙_}
 use native.Mathlib.Omega.{arith}
 use borrow.Author.Needs.{needs}
-use Rattle.rules.specs.Bytes.{number2}
 use Rattle.records.specs.declared.Fault.the-variants.{Sound}
 use Rattle.records.specs.Faults.{Begun}
 use Rattle.records.proofs.Framing.{frame-begun, frame-number, frame-sound}
@@ -14,26 +12,17 @@ begun : (c : tie.After-enum-told) → let a = c .before .before .before .before 
 begun c = rw (c .enum-told .given .1) at (c .before .before .begins .ensures)
 
 returns : tie.Need-returns
-returns c =
-    let a = c .before .before .before .before .before .args in
-    frame-begun (now (a .board)) (a .at) (a .size) (a .mark) (number2 (now (a .board)) (a .at + 2)) (a .due) _
-    (rw (c .before .begun .given .1) at (c .before .before .before .begins .ensures))
+returns c = frame-begun _ _ _ _ _ _ _ (rw (c .before .begun .given .1) at (c .before .before .before .begins .ensures))
 
 number-requires : tie.Need-number-requires
 unfolding Begun
 number-requires c κs = omega (arith, begun c .0)
 
 returns-2 : tie.Need-returns-2
-returns-2 c =
-    let a = c .before .before .before .before .before .before .args in
-    frame-number (now (a .board)) (a .at) (a .size) (a .mark) (number2 (now (a .board)) (a .at + 2)) (a .due) (begun (c .before .before))
-    (λ e. c .if1 .taken (c .before .number .ensures ∙ e))
+returns-2 c = frame-number _ _ _ _ _ _ (begun (c .before .before)) (λ e. c .if1 .taken (c .before .number .ensures ∙ e))
 
 returns-3 : tie.Need-returns-3
-returns-3 c =
-    let a = c .before .before .before .before .before .before .args in
-    frame-sound (now (a .board)) (a .at) (a .size) (a .mark) (number2 (now (a .board)) (a .at + 2)) (a .due) (begun (c .before .before))
-    (sym (c .before .number .ensures) ∙ c .if1 .left)
+returns-3 c = frame-sound _ _ _ _ _ _ (begun (c .before .before)) (sym (c .before .number .ensures) ∙ c .if1 .left)
 
 pub ballot-frame-spec : {M : Type 1} → statement M
 ballot-frame-spec =

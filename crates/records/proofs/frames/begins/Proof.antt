@@ -1,4 +1,3 @@
-use denote.Ref.{now}
 use mathlib.Core.Path.{sym, _∙_}
 use native.Mathlib.Omega.{arith}
 use borrow.Author.Needs.{needs}
@@ -7,20 +6,11 @@ use Rattle.records.proofs.Framing.{begun-short, begun-mark, begun-sound
 use Rattle.records.proofs.frames.begins.Statement.{statement}
 use Rattle.records.proofs.frames.begins.Tie as tie
 
-returns : tie.Need-returns
-returns c =
-    let a = c .before .before .args in
-    begun-short (now (a .board)) (a .at) (a .size) (a .mark) (omega arith)
-
 returns-2 : tie.Need-returns-2
-returns-2 c =
-    let a = c .before .before .before .before .args in
-    begun-mark (now (a .board)) (a .at) (a .size) (a .mark) (omega arith) (sym (c .before .has-mark .ensures) ∙ not-true _ (c .if2 .taken))
+returns-2 c = begun-mark _ _ _ _ (omega arith) (sym (c .before .has-mark .ensures) ∙ not-true _ (c .if2 .taken))
 
 returns-3 : tie.Need-returns-3
-returns-3 c =
-    let a = c .before .before .before .before .args in
-    begun-sound (now (a .board)) (a .at) (a .size) (a .mark) (omega arith) (sym (c .before .has-mark .ensures) ∙ not-false _ (c .if2 .left))
+returns-3 c = begun-sound _ _ _ _ (omega arith) (sym (c .before .has-mark .ensures) ∙ not-false _ (c .if2 .left))
 
 pub begins-spec : {M : Type 1} → statement M
-begins-spec = tie.close (tie.spec (λ c. search needs) returns (λ c κs. search needs) returns-2 returns-3)
+begins-spec = tie.close (tie.spec (λ c. search needs) (λ c. begun-short _ _ _ _ (omega arith)) (λ c κs. search needs) returns-2 returns-3)

@@ -1,8 +1,6 @@
 use denote.Ref.{now}
-use Prim.Native.Nat.{_+_}
 use mathlib.Core.Path.{sym, _∙_}
 use native.Mathlib.Omega.{arith}
-use lib.ListN.{getD}
 use borrow.Author.Needs.{needs}
 use Rattle.rules.specs.Records.{RT, sheetLength}
 use Rattle.records.specs.declared.Fault.the-variants.{Sound}
@@ -15,26 +13,17 @@ begun : (c : tie.After-enum-told) → let a = c .before .before .before .before 
 begun c = rw (c .before .before .before .sheet-length .ensures .0, c .enum-told .given .1) at (c .before .before .begins .ensures)
 
 returns : tie.Need-returns
-returns c =
-    let a = c .before .before .before .before .before .before .args in
-    frame-begun (now (a .board)) (a .at) (sheetLength (a .n)) RT (getD (now (a .board)) (a .at + 2) 0) (a .round) _
-    (rw (c .before .before .before .before .sheet-length .ensures .0, c .before .begun .given .1) at (c .before .before .before .begins .ensures))
+returns c = frame-begun _ _ _ _ _ _ _ (rw (c .before .before .before .before .sheet-length .ensures .0, c .before .begun .given .1) at (c .before .before .before .begins .ensures))
 
 byte-requires : tie.Need-byte-requires
 unfolding Begun
 byte-requires c κs = omega (arith, begun c .0)
 
 returns-2 : tie.Need-returns-2
-returns-2 c =
-    let a = c .before .before .before .before .before .before .before .args in
-    frame-number (now (a .board)) (a .at) (sheetLength (a .n)) RT (getD (now (a .board)) (a .at + 2) 0) (a .round) (begun (c .before .before))
-    (λ e. c .if1 .taken (c .before .byte .ensures ∙ e))
+returns-2 c = frame-number _ _ _ _ _ _ (begun (c .before .before)) (λ e. c .if1 .taken (c .before .byte .ensures ∙ e))
 
 returns-3 : tie.Need-returns-3
-returns-3 c =
-    let a = c .before .before .before .before .before .before .before .args in
-    frame-sound (now (a .board)) (a .at) (sheetLength (a .n)) RT (getD (now (a .board)) (a .at + 2) 0) (a .round) (begun (c .before .before))
-    (sym (c .before .byte .ensures) ∙ c .if1 .left)
+returns-3 c = frame-sound _ _ _ _ _ _ (begun (c .before .before)) (sym (c .before .byte .ensures) ∙ c .if1 .left)
 
 pub sheet-frame-spec : {M : Type 1} → statement M
 sheet-frame-spec =

@@ -50,13 +50,11 @@ generated c = c .generators-good .ensures
 
 returns : tie.Need-returns
 unfolding HeaderReads
-returns c = let a = c .before .before .before .args in too-short (a .model) (now (a .board)) (omega arith)
+returns c = too-short _ _ (omega arith)
 
 returns-2 : tie.Need-returns-2
 unfolding HeaderReads
-returns-2 c =
-    let a = c .before .before .before .before .before .args in
-    wrong-mark (a .model) (now (a .board)) (omega arith) (sym (c .before .has-mark .ensures) ∙ not-true _ (c .if2 .taken))
+returns-2 c = wrong-mark _ _ (omega arith) (sym (c .before .has-mark .ensures) ∙ not-true _ (c .if2 .taken))
 
 returns-3 : tie.Need-returns-3
 unfolding HeaderReads

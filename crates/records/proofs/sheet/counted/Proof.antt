@@ -7,39 +7,28 @@ use Rattle.records.proofs.sheet.counted.Tie as tie
 
 returns : tie.Need-returns
 returns c =
-    let a = c .before .before .before .before .args in
-    let e = sym (c .before .before .before .closes .ensures) ∙ c .before .before .if1 .taken in (
-      rw (c .refused .ensures .0, c .refused .ensures .1)
-          (wrong-out (a .n) (a .k) (a .count) _ (a .out) 0 (due-closed (a .n) (a .k) (a .count) _ e) (λ z. omega arith)),
-      c .refused .ensures .2,
-    )
+    let e = sym (c .before .before .before .closes .ensures) ∙ c .before .before .if1 .taken in
+    (rw (c .refused .ensures .0, c .refused .ensures .1) (wrong-out _ _ _ _ _ 0 (due-closed _ _ _ _ e) (λ z. omega arith)), c .refused .ensures .2)
 
 returns-2 : tie.Need-returns-2
 returns-2 c =
-    let a = c .before .before .before .before .before .args in
-    let w = c .before .close .ensures in (
-      closed (a .n) (a .k) (a .count) _ (a .out) (sym (c .before .before .before .before .closes .ensures) ∙ c .before .before .before .if1 .taken) (omega arith)
-          _ (w .0) (w .1) (w .2),
-      refl,
-    )
+    let e = sym (c .before .before .before .before .closes .ensures) ∙ c .before .before .before .if1 .taken in
+    let w = c .before .close .ensures in
+    (closed _ _ _ _ _ e (omega arith) _ (w .0) (w .1) (w .2), refl)
 
 returns-3 : tie.Need-returns-3
 returns-3 c =
-    let a = c .before .before .before .before .before .args in
     let e = sym (c .before .before .before .before .closes .ensures) ∙ c .before .before .before .if1 .left in (
-      rw (c .refused2 .ensures .0, c .refused2 .ensures .1)
-          (wrong-out (a .n) (a .k) (a .count) _ (a .out) _ (due-open (a .n) (a .k) (a .count) _ e _ (c .before .before .leaves .ensures .0))
-          (λ z. omega arith)),
+      rw (c .refused2 .ensures .0, c .refused2 .ensures .1) (wrong-out _ _ _ _ _ _ (due-open _ _ _ _ e _ (c .before .before .leaves .ensures .0)) (λ z. omega arith)),
       c .refused2 .ensures .2,
     )
 
 returns-4 : tie.Need-returns-4
 returns-4 c =
-    let a = c .before .before .before .before .before .args in
     let e = sym (c .before .before .before .before .closes .ensures) ∙ c .before .before .before .if1 .left in
     let out = c .before .before .leaves .ensures in
     let after = c .next .ensures in
-    (opened (a .n) (a .k) (a .count) _ (a .out) e _ (out .0) (out .1) (omega arith) _ (after .0) (after .1) (after .2 (a .n)), refl)
+    (opened _ _ _ _ _ e _ (out .0) (out .1) (omega arith) _ (after .0) (after .1) (after .2 _), refl)
 
 pub counted-spec : {M : Type 1} → statement M
 counted-spec =

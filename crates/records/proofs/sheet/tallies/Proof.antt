@@ -1,6 +1,6 @@
-use Prim.Native.Nat.{ℕ, _-_, _≤_}
+use Prim.Native.Nat.{_-_, _≤_}
 use mathlib.Core.Path.{_≡_, sym, _∙_}
-use mathlib.Core.Bool.{Bool, true}
+use mathlib.Core.Bool.{true}
 use native.Mathlib.Omega.{arith}
 use lib.ListN.{getD}
 use borrow.Author.Needs.{needs}
@@ -21,27 +21,16 @@ Inv-loop n group b y counts exponents i₀ i =
 abbrev μ-loop : tie.MeasureT-loop
 μ-loop n group b y counts exponents i₀ i = n - i
 
--- the columns' equations
-abbrev columns : tie.Start Inv-loop μ-loop → ℕ → Bool
-columns s i =
-    let a = s .args in columnTallies (parametersOf (a .g)) (elementOf (a .tally .b) i) (elementOf (a .tally .y) i) (getD (a .sheet .counts) i 0) (exponentOf (a .s) i)
-
 returns : tie.Need-returns Inv-loop μ-loop
 returns c =
-    let l = c .before .before .before .before .before .before in
-    let s = l .before .before .before .before in
-    sym (all-fails (s .args .n) (l .loop .i) (columns s) (omega arith) (sym (c .before .column-tallies .ensures) ∙ not-true _ (c .if1 .taken)))
+    sym (all-fails _ (c .before .before .before .before .before .before .loop .i) _ (omega arith) (sym (c .before .column-tallies .ensures) ∙ not-true _ (c .if1 .taken)))
 
 loop-again : tie.Need-loop-again Inv-loop μ-loop
 loop-again c =
-    let l = c .before .before .before .before .before .before in
-    (omega arith, all-more _ _ (l .loop .inv .1) (sym (c .before .column-tallies .ensures) ∙ not-false _ (c .if1 .left)))
+    (omega arith, all-more _ _ (c .before .before .before .before .before .before .loop .inv .1) (sym (c .before .column-tallies .ensures) ∙ not-false _ (c .if1 .left)))
 
 returns-2 : tie.Need-returns-2 Inv-loop μ-loop
-returns-2 c =
-    let l = c .before in
-    let s = l .before .before .before .before in
-    sym (all-end (s .args .n) (l .loop .i) (columns s) (l .loop .inv .0) (omega arith) (l .loop .inv .1))
+returns-2 c = sym (all-end _ (c .before .loop .i) _ (c .before .loop .inv .0) (omega arith) (c .before .loop .inv .1))
 
 pub tallies-spec : {M : Type 1} → statement M
 tallies-spec =

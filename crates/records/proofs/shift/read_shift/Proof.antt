@@ -4,15 +4,11 @@ use mathlib.Core.Path.{sym, _∙_}
 use native.Mathlib.Omega.{arith}
 use borrow.Author.Needs.{needs}
 use borrow.Author.Tests.{not-true, not-false}
-use Rattle.sha256.specs.Message.{sha256}
 use Rattle.rules.specs.Bytes.{number2}
 use Rattle.rules.specs.Records.{SH, shiftLength}
-use Rattle.rules.specs.Shift.{shiftFault}
-use Rattle.records.specs.Heads.{headOf}
 use Rattle.records.specs.declared.Fault.the-variants.{Sound}
 use Rattle.records.specs.Faults.{Framed}
-use Rattle.records.specs.Parts.{shiftFieldsAt, shiftProofAt}
-use Rattle.records.proofs.Framing.{FiveTests, wrong-frame, wrong-field, wrong-proof, all-sound}
+use Rattle.records.proofs.Framing.{wrong-frame, wrong-field, wrong-proof, all-sound}
 use Rattle.records.proofs.BallotTables.{shift-table}
 use Rattle.records.proofs.shift.read_shift.Statement.{statement}
 use Rattle.records.proofs.shift.read_shift.Tie as tie
@@ -23,17 +19,9 @@ framed : (c : tie.After-enum-told) →
     (number2 (now (a .board)) (a .at + 2)) (a .number) Sound
 framed c = rw (c .before .before .before .shift-length .ensures .0, c .enum-told .given .1) at (c .before .before .ballot-frame .ensures)
 
-table : (c : tie.After-group) →
-    let a = c .before .before .args in
-    FiveTests (now (a .board)) (a .at) (shiftLength (a .h .n) (a .rows)) SH (number2 (now (a .board)) (a .at + 2)) (a .number)
-    (shiftFieldsAt (now (a .board)) (a .h .n) (a .h .setup .group .p) (a .h .setup .group .q) (a .at) (a .rows))
-    (shiftProofAt (now (a .board)) (a .h) (a .before) (a .at) (a .rows) (a .a - 1))
-    (shiftFault sha256 (now (a .board)) (headOf (now (a .board)) (a .h)) (a .rows) (a .at) (a .a) (a .before) (a .number))
-table c = let a = c .before .before .args in shift-table (now (a .board)) (a .h) (a .at) (a .rows) (a .a) (a .before) (a .number)
-
 returns : tie.Need-returns
 returns c =
-    wrong-frame (table (c .before .before .before .before .before)) _
+    wrong-frame (shift-table _ (c .before .before .before .before .before .before .before .args .h) _ _ _ _ _) _
     (rw (c .before .before .before .before .shift-length .ensures .0, c .before .framed .given .1) at (c .before .before .before .ballot-frame .ensures))
 
 fields-good-requires : tie.Need-fields-good-requires
@@ -42,7 +30,7 @@ fields-good-requires c κs = omega (arith, framed c .0)
 
 returns-2 : tie.Need-returns-2
 returns-2 c =
-    wrong-field (table (c .before .before .before .before .before .before)) (framed (c .before .before))
+    wrong-field (shift-table _ (c .before .before .before .before .before .before .before .before .args .h) _ _ _ _ _) (framed (c .before .before))
     (sym (c .before .fields-good .ensures) ∙ not-true _ (c .if1 .taken))
 
 shift-proof-requires : tie.Need-shift-proof-requires
@@ -54,13 +42,13 @@ shift-proof-requires c κs =
 returns-3 : tie.Need-returns-3
 returns-3 c =
     let f = c .before .before .before in
-    wrong-proof (table (f .before .before .before .before .before)) (framed (f .before))
+    wrong-proof (shift-table _ (f .before .before .before .before .before .before .before .args .h) _ _ _ _ _) (framed (f .before))
     (sym (f .fields-good .ensures) ∙ not-false _ (c .before .before .if1 .left)) (sym (c .before .shift-proof .ensures) ∙ not-true _ (c .if2 .taken))
 
 returns-4 : tie.Need-returns-4
 returns-4 c =
     let f = c .before .before .before in
-    all-sound (table (f .before .before .before .before .before)) (framed (f .before))
+    all-sound (shift-table _ (f .before .before .before .before .before .before .before .args .h) _ _ _ _ _) (framed (f .before))
     (sym (f .fields-good .ensures) ∙ not-false _ (c .before .before .if1 .left)) (sym (c .before .shift-proof .ensures) ∙ not-false _ (c .if2 .left))
     _ (omega (arith, f .before .before .before .before .shift-length .ensures .0))
 
