@@ -11,8 +11,7 @@ use Rattle.round.proofs.read_record.Tie as tie
 returns : tie.Need-returns
 returns c =
     let s = c .before .before .before in
-    record-first (now (s .args .board)) (headOf (now (s .args .board)) (s .args .h)) (s .args .round .a) (s .args .k) (s .args .at) _ (s .args .round .m)
-    (c .before .if1 .taken) (s .pre .0 .4) (c .read-ballot .ensures)
+    record-first (now (s .args .board)) (headOf (now (s .args .board)) (s .args .h)) _ _ _ _ _ (c .before .if1 .taken) (s .pre .0 .4) (c .read-ballot .ensures)
 
 -- the round before
 earlier : (c : tie.After-struct-known) → let a = c .before .before .before .args in a .round .m ≡ suc (a .round .m - 1)
@@ -28,8 +27,8 @@ read-shift-requires c κs =
 returns-2 : tie.Need-returns-2
 returns-2 c =
     let s = c .before .before .before .before in
-    record-later (now (s .args .board)) (headOf (now (s .args .board)) (s .args .h)) (s .args .round .a) (s .args .k) (s .args .at) _ (s .args .round .m) _ _
-    (earlier (c .before)) (s .pre .0 .4) (s .pre .1 _ (earlier (c .before)) .2) (c .read-shift .ensures)
+    record-later (now (s .args .board)) (headOf (now (s .args .board)) (s .args .h)) _ _ _ _ _ _ _ (earlier (c .before)) (s .pre .0 .4)
+    (s .pre .1 _ (earlier (c .before)) .2) (c .read-shift .ensures)
 
 pub read-record-spec : {M : Type 1} → statement M
 read-record-spec =

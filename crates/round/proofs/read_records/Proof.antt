@@ -41,8 +41,7 @@ unfolding Passes
 returns c =
     let l = c .before .before .before .before in
     let s = start l in
-    searched-refused _ _ (s .pre .0) _ _ (s .pre .1) (l .before .loop .inv) (l .loop-test .taken) _
-    (rw (c .before .read .given .1) at (c .before .before .before .read-record .ensures))
+    searched-refused _ _ (s .pre .0) _ _ (s .pre .1) (l .before .loop .inv) (l .loop-test .taken) _ (rw (c .before .read .given .1) at (c .before .before .before .read-record .ensures))
 
 -- the record has no fault
 passed : (c : tie.After-known-told2 Inv-loop μ-loop) →
@@ -68,12 +67,7 @@ add-before : tie.Need-add-before Inv-loop μ-loop
 add-before c =
     let l = c .before .before .before .before .before in
     let s = start l in
-    omega (
-      arith,
-      earlier-small _ _ _ _ (s .pre .1) _ _ (l .loop-test .taken) (l .before .loop .inv .earlier),
-      l .before .before .before .earlier-length .ensures .0,
-      s .good,
-    )
+    omega (arith, earlier-small _ _ _ _ (s .pre .1) _ _ (l .loop-test .taken) (l .before .loop .inv .earlier), l .before .before .before .earlier-length .ensures .0, s .good)
 
 add-number : tie.Need-add-number Inv-loop μ-loop
 add-number c =
