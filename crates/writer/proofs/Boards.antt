@@ -11,7 +11,7 @@ use Rattle.numbers.specs.Below.{concatBelow}
 use Rattle.sha256.specs.Message.{sha256}
 use Rattle.group.specs.Elements.{Parameters}
 use Rattle.rules.specs.Answers.{withZeros}
-use Rattle.rules.specs.Count.{Result, table}
+use Rattle.rules.specs.Count.{Result, table, isRanking}
 use Rattle.jobs.specs.Job.{Job, groupOf, rankingOf, needed, boardLength, plainResult, roundDraws, roundAt}
 use Rattle.jobs.specs.Board.{headerBytes, boardBytes, board}
 use Rattle.jobs.specs.Write.{boardWritten, writeOutcome, writeOutput, Valid}
@@ -30,7 +30,6 @@ use Rattle.boards.proofs.Walk.{rounds-are, few-rounds, goes-out, left, struck-b
 use Rattle.boards.proofs.RoundPlans.{length-rounds, length-header, place-least}
 use Rattle.writer.specs.Steps.{Measured}
 use Rattle.writer.proofs.Outcomes.{Answered}
-use Rattle.rules.specs.Count.{isRanking}
 
 -- a job with the numbers of a group
 abbrev inGroup : Job → Parameters → Job

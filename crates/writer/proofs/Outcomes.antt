@@ -97,31 +97,24 @@ module _ (job : Job) (out : List ℕ) where
       let n : eqb (suc v) 0 ≡ false = ne-eqb (suc v) 0 (λ z. omega arith) in
       record { outcome = rw (e, n, w); output = rw (e, n) }
 
-  which-none : (v : ℕ) → (v ≡ 13 → ⊥) → badRanking job v ≡ 0
+  -- only the rankings' refusal names one of them
+  plainly : (v : ℕ) → (suc v ≡ 13 → ⊥) → jobFault sha256 job (length out) ≡ suc v → Stops job out (suc v) 0
   unfolding badRanking
-  which-none v h = rw (ne-eqb v 13 h)
-
-  which-long : (length (job .rankings) ≡ job .K * job .n → ⊥) → badRanking job 13 ≡ 0
-  unfolding badRanking
-  which-long h = rw (ne-eqb (length (job .rankings)) (job .K * job .n) h)
-
-  which-bad : length (job .rankings) ≡ job .K * job .n → badRanking job 13 ≡ firstBad job (job .K)
-  unfolding badRanking
-  which-bad h = rw (eq-eqb (length (job .rankings)) (job .K * job .n) h)
+  plainly v h e = stops v 0 e (rw (ne-eqb (suc v) 13 h))
 
   pub stops-sizes : sizes ranked (job .n) (job .K) ≡ false → Stops job out 3 0
   unfolding jobFault firstFault
-  stops-sizes a = stops 2 0 (rw a) (which-none 3 (λ e. omega arith))
+  stops-sizes a = plainly 2 (λ e. omega arith) (rw a)
 
   module _ (a : sizes ranked (job .n) (job .K) ≡ true) where
     pub stops-orders : orders (job .n) (job .K) (job .p) (job .q) ≡ false → Stops job out 4 0
     unfolding jobFault firstFault
-    stops-orders b = stops 3 0 (rw (a, b)) (which-none 4 (λ e. omega arith))
+    stops-orders b = plainly 3 (λ e. omega arith) (rw (a, b))
 
     module _ (b : orders (job .n) (job .K) (job .p) (job .q) ≡ true) where
       pub stops-label : labelGood sha256 job ≡ false → Stops job out 5 0
       unfolding jobFault firstFault
-      stops-label c = stops 4 0 (rw (a, b, c)) (which-none 5 (λ e. omega arith))
+      stops-label c = plainly 4 (λ e. omega arith) (rw (a, b, c))
 
       module _ (c : labelGood sha256 job ≡ true) where
         stops-rankings : rankingsGood job ≡ false → (k : ℕ) → badRanking job 13 ≡ k → Stops job out 13 k
@@ -129,20 +122,21 @@ module _ (job : Job) (out : List ℕ) where
         stops-rankings d k w = stops 12 k (rw (a, b, c, d)) w
 
         pub stops-length : (length (job .rankings) ≡ job .K * job .n → ⊥) → Stops job out 13 0
-        stops-length h = stops-rankings (rw (ne-eqb (length (job .rankings)) (job .K * job .n) h)) 0 (which-long h)
+        unfolding badRanking
+        stops-length h = let t = ne-eqb (length (job .rankings)) (job .K * job .n) h in stops-rankings (rw t) 0 (rw t)
 
         pub stops-ranking : length (job .rankings) ≡ job .K * job .n → (k : ℕ) → k ≡ firstBad job (job .K) → 0 < k → Stops job out 13 k
-        stops-ranking h k e p =
-            stops-rankings (rw (eq-eqb (length (job .rankings)) (job .K * job .n) h) (not-ranked job (job .K) (omega arith))) k (which-bad h ∙ sym e)
+        unfolding badRanking
+        stops-ranking h k e p = let t = eq-eqb (length (job .rankings)) (job .K * job .n) h in stops-rankings (rw t (not-ranked job (job .K) (omega arith))) k (rw t (sym e))
 
   pub stops-draws : Passed sha256 job → drawsGood job ≡ false → Stops job out 14 0
   unfolding jobFault firstFault
-  stops-draws t e = stops 13 0 (rw (t .sized, t .ordered, t .labelled, t .ranked, e)) (which-none 14 (λ e. omega arith))
+  stops-draws t e = plainly 13 (λ e. omega arith) (rw (t .sized, t .ordered, t .labelled, t .ranked, e))
 
   pub stops-room : Valid sha256 job → (k : ℕ) → k ≡ boardLength job → length out < k → Stops job out 15 0
   unfolding jobFault firstFault
   stops-room v k w h =
-      stops 14 0 (rw (v .passed .sized, v .passed .ordered, v .passed .labelled, v .passed .ranked, v .drawn, lt-leb (boardLength job) (length out) (omega (arith, w)))) (which-none 15 (λ e. omega arith))
+      plainly 14 (λ e. omega arith) (rw (v .passed .sized, v .passed .ordered, v .passed .labelled, v .passed .ranked, v .drawn, lt-leb (boardLength job) (length out) (omega (arith, w))))
 
 -- what the contract says of a reply, and of the output before and after
 abbrev pub Answered : Job → (o o' : List ℕ) → Written → Type 0

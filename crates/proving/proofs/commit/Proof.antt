@@ -64,22 +64,10 @@ returns c =
     record { wrote = rw all at (l .inv .2); fed = λ m f. rw all at (l .inv .3 m f) }
 
 pub commit-spec : {M : Type 1} → statement M
-commit-spec =
-    tie.close
-    (tie.spec
-    Inv-loop
-    μ-loop
-    (λ c. omega (arith, c .before .before .before .before .before .pre .0 .1 .drawn .small))
-    (λ c. omega (arith, c .before .before .before .before .before .pre .0 .1 .drawn .small))
-    loop-holds
-    (λ c. omega (arith, within c, start c .good))
+commit-spec = tie.close (tie.spec Inv-loop μ-loop (λ c. omega (arith, c .before .before .before .before .before .pre .0 .1 .drawn .small))
+    (λ c. omega (arith, c .before .before .before .before .before .pre .0 .1 .drawn .small)) loop-holds (λ c. omega (arith, within c, start c .good))
     (λ c κs. let d = start c .pre .0 .1 .drawn in (omega (arith, d .few), d .small, d .near))
-    (λ c. omega (arith, within (c .before), c .before .before .loop .inv .1))
-    (λ c. omega (arith, within (c .before), c .before .before .loop .inv .1))
-    (λ c. omega (arith, within (c .before), c .before .before .loop .inv .1))
-    commit-branch-requires
-    (λ c. let i = c .before .before .before .before .before in omega (arith, start i .pre .0 .1 .drawn .few, i .loop-test .taken))
-    (λ c. search needs)
-    loop-again
-    (λ c. search needs)
-    returns)
+    (λ c. omega (arith, within (c .before), c .before .before .loop .inv .1)) (λ c. omega (arith, within (c .before), c .before .before .loop .inv .1))
+    (λ c. omega (arith, within (c .before), c .before .before .loop .inv .1)) commit-branch-requires
+    (λ c. let i = c .before .before .before .before .before in omega (arith, start i .pre .0 .1 .drawn .few, i .loop-test .taken)) (λ c. search needs)
+    loop-again (λ c. search needs) returns)

@@ -23,10 +23,6 @@ known-within : (c : tie.After-branch-draws) →
     let f = start (held c) .args in (f .maker .plan .known + 1) * (4 + 12 * f .maker .plan .statements) ≤ length (now (f .out))
 known-within c = let s = start (held c) in omega (arith, in-proof (s .args .maker .plan) (s .args .maker .plan .known) (s .pre .0 .1 .drawn .known), s .pre .1)
 
-branch-draws-requires : tie.Need-branch-draws-requires
-branch-draws-requires c κs =
-    let d = start (c .before .before .before .before .before .before) .pre .0 .1 .drawn in (omega (arith, d .few, d .known), d .small, d .near)
-
 answer-requires : tie.Need-answer-requires
 answer-requires c κs =
     let s = start (held (c .before)) in
@@ -51,23 +47,11 @@ returns c m fed =
     (w .branch-draws .ensures) (all .wrote) (c .before .before .answer .ensures)
 
 pub make-spec : {M : Type 1} → statement M
-make-spec =
-    tie.close
-    (tie.spec
-    (λ c κs. search needs)
-    (λ c κs. start c .pre .0 .1 .drawn)
-    (λ c κs. search needs)
-    (λ c κs. start (c .before .before .before) .pre .0 .1 .drawn .positive)
-    (λ c. search needs)
+make-spec = tie.close (tie.spec (λ c κs. search needs) (λ c κs. start c .pre .0 .1 .drawn) (λ c κs. search needs)
+    (λ c κs. start (c .before .before .before) .pre .0 .1 .drawn .positive) (λ c. search needs)
     (λ c. omega (arith, c .before .before .before .before .false-complements .ensures .1))
     (λ c κs. start (c .before .before .before .before .before) .pre .0 .1 .drawn .positive)
-    branch-draws-requires
-    (λ c. omega (arith, start (held c) .pre .0 .1 .drawn .small))
-    (λ c. omega (arith, start (held c) .pre .0 .1 .drawn .small))
-    (λ c. omega (arith, known-within c, start (held c) .good))
-    (λ c. omega (arith, known-within c))
-    (λ c. omega (arith, known-within c))
-    (λ c. omega (arith, known-within c))
-    answer-requires
-    (λ c. search needs)
-    returns)
+    (λ c κs. let d = start (c .before .before .before .before .before .before) .pre .0 .1 .drawn in (omega (arith, d .few, d .known), d .small, d .near))
+    (λ c. omega (arith, start (held c) .pre .0 .1 .drawn .small)) (λ c. omega (arith, start (held c) .pre .0 .1 .drawn .small))
+    (λ c. omega (arith, known-within c, start (held c) .good)) (λ c. omega (arith, known-within c)) (λ c. omega (arith, known-within c))
+    (λ c. omega (arith, known-within c)) answer-requires (λ c. search needs) returns)

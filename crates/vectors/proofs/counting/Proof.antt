@@ -14,9 +14,6 @@ Inv-loop bytes₀ i₀ bytes i = (i ≤ 1000) × (length bytes ≡ 1000) × ((k 
 abbrev μ-loop : tie.MeasureT-loop
 μ-loop bytes₀ i₀ bytes i = 1000 - i
 
-loop-holds : tie.Need-loop-holds Inv-loop μ-loop
-loop-holds c = (search needs, refl, λ k h. omega arith)
-
 loop-again : tie.Need-loop-again Inv-loop μ-loop
 loop-again c =
     let l = c .before .loop in (
@@ -27,19 +24,6 @@ loop-again c =
           (getD-set-same (l .bytes) (l .i) _ 0 (omega arith)),
     )
 
-returns : tie.Need-returns Inv-loop μ-loop
-returns c = let l = c .before .loop in (omega arith, λ i h. l .inv .2 i (omega arith))
-
 pub counting-spec : {M : Type 1} → statement M
-counting-spec =
-    tie.close
-    (tie.spec
-    Inv-loop
-    μ-loop
-    loop-holds
-    (λ c. search needs)
-    (λ c. search needs)
-    (λ c. search needs)
-    (λ c. search needs)
-    loop-again
-    returns)
+counting-spec = tie.close (tie.spec Inv-loop μ-loop (λ c. (search needs, refl, λ k h. omega arith)) (λ c. search needs) (λ c. search needs) (λ c. search needs)
+    (λ c. search needs) loop-again (λ c. let l = c .before .loop in (omega arith, λ i h. l .inv .2 i (omega arith))))

@@ -33,21 +33,5 @@ returns c =
     sym (take-all 64 (l .text) (omega arith)) ∙ rw e at (l .inv .2) ∙ ap hexadecimal (take-all 32 (s .args .t1) (omega (arith, s .good)))
 
 pub hexadecimal-spec : {M : Type 1} → statement M
-hexadecimal-spec =
-    tie.close
-    (tie.spec
-    Inv-loop
-    μ-loop
-    loop-holds
-    (λ c. search needs)
-    (λ c κs. search needs)
-    (λ c. search needs)
-    (λ c. search needs)
-    (λ c κs. search needs)
-    (λ c. search needs)
-    (λ c. search needs)
-    (λ c. search needs)
-    (λ c. search needs)
-    (λ c. search needs)
-    loop-again
-    returns)
+hexadecimal-spec = tie.close (tie.spec Inv-loop μ-loop loop-holds (λ c. search needs) (λ c κs. search needs) (λ c. search needs) (λ c. search needs)
+    (λ c κs. search needs) (λ c. search needs) (λ c. search needs) (λ c. search needs) (λ c. search needs) (λ c. search needs) loop-again returns)

@@ -13,9 +13,6 @@ Inv-loop n byte piece h₀ counter₀ h counter = (counter ≤ n) × Fed h (repl
 abbrev μ-loop : tie.MeasureT-loop
 μ-loop n byte piece h₀ counter₀ h counter = n - counter
 
-loop-holds : tie.Need-loop-holds Inv-loop μ-loop
-loop-holds c = (search needs, c .new .ensures, refl)
-
 loop-again : tie.Need-loop-again Inv-loop μ-loop
 loop-again c =
     let l = c .before .before .before .loop in
@@ -23,24 +20,7 @@ loop-again c =
     let e : (l .counter + 1) * 1000 ≡ l .counter * 1000 + 1000 = omega arith in
     (omega arith, rw (e, ← replicate-append-replicate (l .counter * 1000) 1000 b) (c .update .ensures _ (l .inv .1)), refl)
 
-returns : tie.Need-returns Inv-loop μ-loop
-returns c =
-    let l = c .before .before .loop in
-    let e : l .counter ≡ c .before .before .before .before .args .n = omega arith in
-    c .finish .ensures _ (rw e at (l .inv .1))
-
 pub thousands-spec : {M : Type 1} → statement M
-thousands-spec =
-    tie.close
-    (tie.spec
-    Inv-loop
-    μ-loop
-    (λ c κs. search needs)
-    loop-holds
-    (λ c. search needs)
-    (λ c κs. search needs)
-    (λ c. search needs)
-    (λ c. search needs)
-    loop-again
-    (λ c κs. search needs)
-    returns)
+thousands-spec = tie.close (tie.spec Inv-loop μ-loop (λ c κs. search needs) (λ c. (search needs, c .new .ensures, refl)) (λ c. search needs)
+    (λ c κs. search needs) (λ c. search needs) (λ c. search needs) loop-again (λ c κs. search needs)
+    (λ c. let l = c .before .before .loop in let e : l .counter ≡ c .before .before .before .before .args .n = omega arith in c .finish .ensures _ (rw e at (l .inv .1))))

@@ -98,11 +98,9 @@ returns-4 c =
     (c .board-written .result) w (c .board-written .ensures)
 
 pub write-spec : {M : Type 1} → statement M
-write-spec =
-    tie.close
-    (tie.spec (λ c κs. search needs) (λ c. search needs) (λ c. search needs) (λ c κs. search needs) returns (λ c κs. measurable (job c) (sound c .0))
-    (λ c. omega (arith, c .before .before .count .ensures .1 .listed .few))
+write-spec = tie.close (tie.spec (λ c κs. search needs) (λ c. search needs) (λ c. search needs) (λ c κs. search needs) returns
+    (λ c κs. measurable (job c) (sound c .0)) (λ c. omega (arith, c .before .before .count .ensures .1 .listed .few))
     (λ c κs. let w = measurable (job (c .before .before .before)) (sound (c .before .before .before) .0) in (w .1, omega (arith, c .before .before .count .ensures .2), w .2))
     (λ c κs. search needs) (λ c κs. search needs) returns-2
-    (λ c κs. let t = passed (c .before .before) in group-positive (job t) _ (sound t .1) (sound t .0 .ordered)) put-board-requires
-    (λ c κs. search needs) (λ c. search needs) returns-3 (λ c κs. measured-is (at (c .before .before .before)) .kept) (λ c. search needs) returns-4)
+    (λ c κs. let t = passed (c .before .before) in group-positive (job t) _ (sound t .1) (sound t .0 .ordered)) put-board-requires (λ c κs. search needs)
+    (λ c. search needs) returns-3 (λ c κs. measured-is (at (c .before .before .before)) .kept) (λ c. search needs) returns-4)

@@ -22,8 +22,6 @@ returns c =
     (put-long 4 512 (replicate 516 0) _ (pairBytes (f .n) M (f .n)) refl w few, put-stands 4 512 (replicate 516 0) _ (pairBytes (f .n) M (f .n)) refl w)
 
 pub page-of-spec : {M : Type 1} → statement M
-page-of-spec =
-    tie.close
-    (tie.spec (λ c. search needs) (λ c. search needs) (λ c. search needs)
+page-of-spec = tie.close (tie.spec (λ c. search needs) (λ c. search needs) (λ c. search needs)
     (λ c κs. let s = c .before .before in (omega (arith, s .pre), omega (arith, s .pre), omega (arith, s .pre), omega (arith, s .pre), omega (arith, cells (s .args .n) (omega (arith, s .pre))), omega (arith, s .pre), omega (arith, s .pre)))
     returns)

@@ -47,19 +47,12 @@ returns c =
     ∙ ap (λ (x : List ℕ). written x (now (f .out))) (ballot-joined (now (f .label)) g (f .b .n) (f .b .number) list (now (f .draws)) (f .b .from) _ e)
 
 pub write-ballot-spec : {M : Type 1} → statement M
-write-ballot-spec =
-    tie.close
-    (tie.spec
+write-ballot-spec = tie.close (tie.spec
     (λ c κs. let s = c .before .before .before .before .before in let p = s .pre .0 in (p .0 .p-pos, p .1, p .2, omega (arith, s .pre .1 .near), omega (arith, s .pre .1 .enough)))
-    (λ c. omega (arith, few c))
-    (λ c. omega (arith, few c))
-    (λ c. omega (arith, few c)) (λ c. omega arith)
-    (λ c. omega (arith, c .before .before .page-of .ensures .0))
-    (λ c. omega (arith, few (c .before .before), c .before .before .page-of .ensures .0))
-    (λ c κs. simp (length-take, length-drop) (omega (arith, start (c .before .before .before) .pre .0 .3)))
-    (λ c κs. search needs)
-    (λ c κs. search needs)
+    (λ c. omega (arith, few c)) (λ c. omega (arith, few c)) (λ c. omega (arith, few c)) (λ c. omega arith)
+    (λ c. omega (arith, c .before .before .page-of .ensures .0)) (λ c. omega (arith, few (c .before .before), c .before .before .page-of .ensures .0))
+    (λ c κs. simp (length-take, length-drop) (omega (arith, start (c .before .before .before) .pre .0 .3))) (λ c κs. search needs) (λ c κs. search needs)
     (λ c. omega (arith, start (paged c) .pre .0 .3, c .before .before, c .before .before .before))
     (λ c. omega (arith, start (paged c) .pre .0 .3, c .before .before, c .before .before .before))
-    (λ c. omega (arith, start (paged c) .pre .0 .3, c .before .before, c .before .before .before))
-    (λ c. search needs) write-proofs-requires (λ c. search needs) returns)
+    (λ c. omega (arith, start (paged c) .pre .0 .3, c .before .before, c .before .before .before)) (λ c. search needs) write-proofs-requires (λ c. search needs)
+    returns)

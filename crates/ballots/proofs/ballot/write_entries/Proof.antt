@@ -58,10 +58,9 @@ returns c m fed =
     l .inv .2 m fed ∙ rw e
 
 pub write-entries-spec : {M : Type 1} → statement M
-write-entries-spec =
-    tie.close
-    (tie.spec Inv-loop μ-loop (λ c. let s = c .before .before .before in omega (arith, cells (s .args .b .n) (omega (arith, s .pre .0))))
-    loop-holds (λ c. let s = c .before .before .before .before .before in omega (arith, cells (s .args .b .n) (omega (arith, s .pre .0))))
+write-entries-spec = tie.close (tie.spec Inv-loop μ-loop
+    (λ c. let s = c .before .before .before in omega (arith, cells (s .args .b .n) (omega (arith, s .pre .0)))) loop-holds
+    (λ c. let s = c .before .before .before .before .before in omega (arith, cells (s .args .b .n) (omega (arith, s .pre .0))))
     (λ c. omega (arith, c .before .before .before .before .before .pre .0, c .before .loop .inv .1))
     (λ c. omega (arith, c .before .before .before .before .before .pre .0, c .before .loop .inv .1))
     (λ c. omega (arith, c .before .before .before .before .before .pre .0, c .before .loop .inv .1)) write-entry-requires

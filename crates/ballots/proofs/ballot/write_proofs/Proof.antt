@@ -31,15 +31,9 @@ returns c m fed =
     ∙ ap (λ (x : List ℕ). written x (now (f .out))) (proofs-joined m g (f .b .n) 0 list (now (f .draws)) (f .b .from) (s .pre .0 .1))
 
 pub write-proofs-spec : {M : Type 1} → statement M
-write-proofs-spec =
-    tie.close
-    (tie.spec
-    (λ c. let s = c .before .before .before in omega (arith, cells (s .args .b .n) (s .pre .0 .2)))
+write-proofs-spec = tie.close (tie.spec (λ c. let s = c .before .before .before in omega (arith, cells (s .args .b .n) (s .pre .0 .2)))
     (λ c κs. let s = c .before .before .before .before in let p = s .pre .0 in ((p .0, p .1, p .2, omega (arith, p .3), p .4), s .pre .1))
     (λ c. let s = c .before .before .before .before .before .before .before in omega (arith, cells (s .args .b .n) (s .pre .0 .2)))
     (λ c. omega (arith, c .before .before .before .before .before .before .before .pre .0 .3, c, c .before))
     (λ c. omega (arith, c .before .before .before .before .before .before .before .pre .0 .3, c, c .before))
-    (λ c. omega (arith, c .before .before .before .before .before .before .before .pre .0 .3, c, c .before))
-    write-lines-requires
-    (λ c. search needs)
-    returns)
+    (λ c. omega (arith, c .before .before .before .before .before .before .before .pre .0 .3, c, c .before)) write-lines-requires (λ c. search needs) returns)

@@ -63,20 +63,11 @@ returns c m fed =
     ∙ ap (λ (x : ℕ). x % f .g .group .q) (line-sum (now (f .draws)) (f .b .from) (f .b .n) (f .t))))
 
 pub write-line-spec : {M : Type 1} → statement M
-write-line-spec =
-    tie.close
-    (tie.spec
-    (λ c κs. let s = c .before .before .before in (s .pre .0 .3, omega (arith, cells (s .args .b .n) (s .pre .0 .2))))
-    (λ c. omega (arith, fits (c .before), c .before .before .before .before .before .pre .1 .near))
-    sum-of-requires
-    (λ c. omega (arith, fits (c .before .before .before)))
-    (λ c. omega (arith, fits (c .before .before .before)))
-    (λ c. omega (arith, fits (c .before .before .before .before)))
-    (λ c. omega (arith, fits (c .before .before .before .before)))
+write-line-spec = tie.close (tie.spec (λ c κs. let s = c .before .before .before in (s .pre .0 .3, omega (arith, cells (s .args .b .n) (s .pre .0 .2))))
+    (λ c. omega (arith, fits (c .before), c .before .before .before .before .before .pre .1 .near)) sum-of-requires
+    (λ c. omega (arith, fits (c .before .before .before))) (λ c. omega (arith, fits (c .before .before .before)))
+    (λ c. omega (arith, fits (c .before .before .before .before))) (λ c. omega (arith, fits (c .before .before .before .before)))
     (λ c. omega (arith, fits (c .before .before .before .before)))
     (λ c. omega (arith, fits (c .before .before .before .before), c .before .before .before .before .before .before .before .before .pre .1 .near))
-    (λ c. omega (arith, fits (c .before .before .before .before), c .before .before .before .before .before .before .before .before .pre))
-    (λ c. search needs)
-    make-requires
-    (λ c. search needs)
-    returns)
+    (λ c. omega (arith, fits (c .before .before .before .before), c .before .before .before .before .before .before .before .before .pre)) (λ c. search needs)
+    make-requires (λ c. search needs) returns)

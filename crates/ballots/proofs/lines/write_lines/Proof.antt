@@ -58,9 +58,7 @@ returns c =
     λ m fed M. l .inv .2 m fed M ∙ rw e
 
 pub write-lines-spec : {M : Type 1} → statement M
-write-lines-spec =
-    tie.close
-    (tie.spec Inv-loop μ-loop (λ c. omega (arith, c .before .before .before .pre .0 .2)) loop-holds
+write-lines-spec = tie.close (tie.spec Inv-loop μ-loop (λ c. omega (arith, c .before .before .before .pre .0 .2)) loop-holds
     (λ c. omega (arith, c .before .before .before .before .before .pre .0 .2))
     (λ c. omega (arith, c .before .before .before .before .before .pre .0, c .before .loop .inv .1))
     (λ c. omega (arith, c .before .before .before .before .before .pre .0, c .before .loop .inv .1))

@@ -5,11 +5,7 @@ use borrow.Author.Needs.{needs}
 use Rattle.ballots.proofs.pairs.opened.Statement.{statement}
 use Rattle.ballots.proofs.pairs.opened.Tie as tie
 
-returns : tie.Need-returns
-returns c = rw (← (c .before .wide .ensures), eq-eqb _ _ (c .if1 .taken)) (refl, omega arith)
-
-returns-2 : tie.Need-returns-2
-returns-2 c = rw (← (c .before .wide .ensures), ne-eqb _ _ (c .if1 .left)) (refl, omega arith)
-
 pub opened-spec : {M : Type 1} → statement M
-opened-spec = tie.close (tie.spec (λ c. search needs) (λ c κs. search needs) (λ c. search needs) returns returns-2)
+opened-spec = tie.close (tie.spec (λ c. search needs) (λ c κs. search needs) (λ c. search needs)
+    (λ c. rw (← (c .before .wide .ensures), eq-eqb _ _ (c .if1 .taken)) (refl, omega arith))
+    (λ c. rw (← (c .before .wide .ensures), ne-eqb _ _ (c .if1 .left)) (refl, omega arith)))

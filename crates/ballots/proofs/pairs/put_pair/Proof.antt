@@ -10,17 +10,5 @@ returns c =
     ∙ rw (c .before .before .before .before .before .before .before .before .before .mul .ensures, c .before .before .before .before .before .before .before .before .pow3 .ensures, c .before .before .before .before .before .before .before .before .before .before .pow2 .ensures, c .before .before .before .before .before .before .before .before .before .before .before .pow .ensures)
 
 pub put-pair-spec : {M : Type 1} → statement M
-put-pair-spec =
-    tie.close
-    (tie.spec
-    (λ c κs. search needs)
-    (λ c κs. search needs)
-    (λ c κs. search needs)
-    (λ c κs. search needs)
-    (λ c κs. search needs)
-    (λ c. search needs)
-    (λ c. search needs)
-    (λ c. search needs)
-    (λ c κs. search needs)
-    (λ c. search needs)
-    returns)
+put-pair-spec = tie.close (tie.spec (λ c κs. search needs) (λ c κs. search needs) (λ c κs. search needs) (λ c κs. search needs) (λ c κs. search needs)
+    (λ c. search needs) (λ c. search needs) (λ c. search needs) (λ c κs. search needs) (λ c. search needs) returns)

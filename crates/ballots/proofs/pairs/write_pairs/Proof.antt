@@ -65,13 +65,11 @@ opened-requires c κs =
     (row-few (l .c) (f .n) (f .rows) (omega (arith, p)) (omega (arith, p)) (omega (arith, l .inv .2)), omega (arith, p, mod-lt (l .c) {m = f .n} (omega (arith, p))))
 
 pub write-pairs-spec : {M : Type 1} → statement M
-write-pairs-spec =
-    tie.close
-    (tie.spec Inv-loop μ-loop
-    (λ c. let s = c .before .before in omega (arith, few-pairs (s .args .rows) (s .args .n) (omega (arith, s .pre)) (omega (arith, s .pre))))
-    loop-holds (λ c. omega (arith, c .before .loop .inv .1)) (λ c. omega (arith, c .before .before .before .before .pre, c .before .loop .inv .1))
-    (λ c. search needs) (λ c. omega (arith, c .before .before .before .before .before .pre, c .before .before .loop .inv .2)) (λ c. search needs)
-    (λ c. search needs) opened-requires
+write-pairs-spec = tie.close (tie.spec Inv-loop μ-loop
+    (λ c. let s = c .before .before in omega (arith, few-pairs (s .args .rows) (s .args .n) (omega (arith, s .pre)) (omega (arith, s .pre)))) loop-holds
+    (λ c. omega (arith, c .before .loop .inv .1)) (λ c. omega (arith, c .before .before .before .before .pre, c .before .loop .inv .1)) (λ c. search needs)
+    (λ c. omega (arith, c .before .before .before .before .before .pre, c .before .before .loop .inv .2)) (λ c. search needs) (λ c. search needs)
+    opened-requires
     (λ c. omega (arith, c .before .before .before .before .before .before .pre, c .before .before .before .loop .inv .2, c .before .before .before .loop .inv .3))
     (λ c. omega (arith, c .before .before .before .before .before .before .pre, c .before .before .before .loop .inv .2, c .before .before .before .loop .inv .3))
     (λ c. omega (arith, c .before .before .before .before .before .before .pre, c .before .before .before .loop .inv .2, c .before .before .before .loop .inv .3))

@@ -34,9 +34,8 @@ part-page-end-2 c =
     omega (arith, put-long 4 1024 (replicate 1028 0) (c .before .write-pairs .last .0) (pairBytes (f .s .n) M (f .s .rows + 1)) refl (c .before .write-pairs .ensures) b)
 
 pub pages-of-spec : {M : Type 1} → statement M
-pages-of-spec =
-    tie.close
-    (tie.spec (λ c. search needs) (λ c. search needs) (λ c. search needs) (λ c. omega (arith, c .before .before .before .before .before .pre .fewer))
+pages-of-spec = tie.close (tie.spec (λ c. search needs) (λ c. search needs) (λ c. search needs)
+    (λ c. omega (arith, c .before .before .before .before .before .pre .fewer))
     (λ c κs. let f = c .before .before .before .before .before .args in let p = c .before .before .before .before .before .pre in (p .modulus, p .some, p .few, omega (arith, p .fewer), omega (arith, cells-few (parametersOf (f .g)) (f .s) (now (f .draws)) p), omega (arith, p .olds .near), p .olds .enough))
     (λ c. search needs) (λ c. search needs) part-page-end-2
     (λ c κs. let f = c .before .before .before .before .before .before .before .before .args in let p = c .before .before .before .before .before .before .before .before .pre in (p .modulus, p .some, p .few, omega (arith, p .fewer), omega (arith, count-few (parametersOf (f .g)) (f .s) (now (f .draws)) p), omega (arith, p .news .near), omega (arith, p .news .enough)))

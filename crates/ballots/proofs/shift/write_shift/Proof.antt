@@ -44,15 +44,12 @@ returns c =
     ∙ ap (λ (x : List ℕ). written x (now (f .out))) (shift-joined g (f .s) (now (f .draws)) (s .pre .0 .1) (now (f .label)) _ e)
 
 pub write-shift-spec : {M : Type 1} → statement M
-write-shift-spec =
-    tie.close
-    (tie.spec (λ c. omega (arith, few c)) (λ c κs. start c .pre .0 .1) (λ c. omega (arith, few (c .before)))
+write-shift-spec = tie.close (tie.spec (λ c. omega (arith, few c)) (λ c κs. start c .pre .0 .1) (λ c. omega (arith, few (c .before)))
     (λ c. omega (arith, few (c .before))) (λ c. omega arith) (λ c. omega (arith, c .before .before .pages-of .ensures .0))
     (λ c. omega (arith, few (c .before .before .before), c .before .before .pages-of .ensures .0))
-    (λ c κs. simp (length-take, length-drop) (omega (arith, start (c .before .before .before .before) .pre .1)))
-    (λ c κs. search needs) (λ c κs. search needs) (λ c. omega (arith, few (paged c .before)))
-    (λ c. omega (arith, few (paged c .before)))
+    (λ c κs. simp (length-take, length-drop) (omega (arith, start (c .before .before .before .before) .pre .1))) (λ c κs. search needs) (λ c κs. search needs)
+    (λ c. omega (arith, few (paged c .before))) (λ c. omega (arith, few (paged c .before)))
     (λ c. omega (arith, start (paged c .before) .pre .1, c .before .before, c .before .before .before))
     (λ c. omega (arith, start (paged c .before) .pre .1, c .before .before, c .before .before .before))
-    (λ c. omega (arith, start (paged c .before) .pre .1, c .before .before, c .before .before .before))
-    (λ c. search needs) write-shift-proof-requires (λ c. search needs) returns)
+    (λ c. omega (arith, start (paged c .before) .pre .1, c .before .before, c .before .before .before)) (λ c. search needs) write-shift-proof-requires
+    (λ c. search needs) returns)

@@ -43,9 +43,7 @@ returns c m fed =
     (c .before .before .before .before .before .before .before .witnesses .ensures))
 
 pub write-shift-proof-spec : {M : Type 1} → statement M
-write-shift-proof-spec =
-    tie.close
-    (tie.spec witnesses-requires (λ c. omega (arith, c .before .before .before .before .pre .0 .1 .fewer))
+write-shift-proof-spec = tie.close (tie.spec witnesses-requires (λ c. omega (arith, c .before .before .before .before .pre .0 .1 .fewer))
     (λ c. let f = c .before .before .before .before .args in omega (arith, cells-few (parametersOf (f .g .group)) (f .s) (now (f .draws)) (c .before .before .before .before .pre .0 .1)))
     (λ c. let f = c .before .before .before .before .args in omega (arith, cells-few (parametersOf (f .g .group)) (f .s) (now (f .draws)) (c .before .before .before .before .pre .0 .1)))
     (λ c κs. let f = c .before .before .before .before .args in let p = c .before .before .before .before .pre .0 in let few = cells-few (parametersOf (f .g .group)) (f .s) (now (f .draws)) (p .1) in (p .1 .modulus, p .1 .news .positive, omega (arith, few), omega (arith, few, p .3)))

@@ -30,20 +30,13 @@ loop-again c =
     (λ w. (omega arith, rw (w .1) (omega arith), w .1 ∙ sum-passed (now (f .draws)) (f .at) (f .stride) (f .but) (l .i) (l .sum) (l .inv .2) (w .0 .left)))
     (c .if1 .came)
 
-returns : tie.Need-returns Inv-loop μ-loop
-returns c =
-    let l = c .before .before .loop in
-    let e : l .i ≡ c .before .before .before .before .args .count = omega arith in
-    c .reduce-exp .ensures ∙ rw (l .inv .2, e)
-
 pub sum-of-spec : {M : Type 1} → statement M
-sum-of-spec =
-    tie.close
-    (tie.spec Inv-loop μ-loop loop-holds
+sum-of-spec = tie.close (tie.spec Inv-loop μ-loop loop-holds
     (λ c. omega (arith, stride-up (c .before .before .before .before .args .stride) (c .before .before .loop .i) (c .before .before .before .before .args .count) (omega arith), c .before .before .before .before))
     (λ c. omega (arith, stride-up (c .before .before .before .before .args .stride) (c .before .before .loop .i) (c .before .before .before .before .args .count) (omega arith), c .before .before .before .before))
     (λ c. omega (arith, stride-up (c .before .before .before .before .args .stride) (c .before .before .loop .i) (c .before .before .before .before .args .count) (omega arith), c .before .before .before .before))
     (λ c. omega (arith, stride-up (c .before .before .before .before .before .args .stride) (c .before .before .before .loop .i) (c .before .before .before .before .before .args .count) (omega arith), c .before .before .before .before .before))
     (λ c. omega (arith, c .shared-slice-known2 .given (c .before .before .before .before .before .args .at + c .before .before .before .before .before .args .stride * c .before .before .before .loop .i)))
     (λ c. omega (arith, c .shared-slice-known2 .given (c .before .before .before .before .before .args .at + c .before .before .before .before .before .args .stride * c .before .before .before .loop .i)))
-    (λ c. search needs) (λ c. search needs) loop-again (λ c κs. search needs) returns)
+    (λ c. search needs) (λ c. search needs) loop-again (λ c κs. search needs)
+    (λ c. let l = c .before .before .loop in let e : l .i ≡ c .before .before .before .before .args .count = omega arith in c .reduce-exp .ensures ∙ rw (l .inv .2, e)))

@@ -81,12 +81,10 @@ returns c =
     rw (← e) (l .inv .3)
 
 pub witnesses-spec : {M : Type 1} → statement M
-witnesses-spec =
-    tie.close
-    (tie.spec Inv-loop μ-loop
+witnesses-spec = tie.close (tie.spec Inv-loop μ-loop
     (λ c. let s = c .before in omega (arith, few (s .args .s .rows) (s .args .s .n) (omega (arith, s .pre .0)) (omega (arith, s .pre .0))))
-    (λ c. omega (arith, row-near c)) (λ c. omega (arith, row-near c)) (λ c. omega (arith, row-near c, c .before .pre .0))
-    (λ c. omega (arith, row-near c)) (λ c. omega (arith, row-there (c .before), c .before .before .pre .0)) (λ c. search needs)
+    (λ c. omega (arith, row-near c)) (λ c. omega (arith, row-near c)) (λ c. omega (arith, row-near c, c .before .pre .0)) (λ c. omega (arith, row-near c))
+    (λ c. omega (arith, row-there (c .before), c .before .before .pre .0)) (λ c. search needs)
     (λ c κs. let p = c .before .before .pre in (p .1 .0 .positive, omega (arith, p .0), omega arith, omega (arith, row-near (c .before)), omega (arith, row-there (c .before), p .0)))
     (λ c. search needs) loop-holds
     (λ c κs. (omega (arith, c .before .before .before .before .before .pre .0), omega (arith, c .before .before .before .before .before .pre .0, c .before .loop .inv .1)))
@@ -99,5 +97,5 @@ witnesses-spec =
     (λ c. omega (arith, c .before .before .before .before .before .loop .inv .1, c .before .before .before .before .loop-test .taken))
     (λ c. omega (arith, c .before .before .before .before .before .loop .inv .1, c .before .before .before .before .loop-test .taken))
     (λ c. omega (arith, c .before .before .before .before .before .loop .inv .1, c .before .before .before .before .loop-test .taken, c .before .before .before .before .before .loop .inv .3 .long))
-    (λ c. omega (arith, c .before .before .before .before .before .loop .inv .1, c .before .before .before .before .loop-test .taken))
-    (λ c. search needs) loop-again returns)
+    (λ c. omega (arith, c .before .before .before .before .before .loop .inv .1, c .before .before .before .before .loop-test .taken)) (λ c. search needs)
+    loop-again returns)

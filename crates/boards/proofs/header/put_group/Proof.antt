@@ -14,8 +14,6 @@ returns c =
     more _ _ _ _ _ _ refl (more _ _ _ _ _ _ refl (more _ _ _ _ _ _ refl (more _ _ _ _ _ _ refl (p .put-number4 .ensures) (q .put-number42 .ensures)) (g0 .put-number43 .ensures)) (counter .put-byte .ensures)) (g1 .put-number44 .ensures)
 
 pub put-group-spec : {M : Type 1} → statement M
-put-group-spec =
-    tie.close
-    (tie.spec (λ c κs. search needs) (λ c. search needs) (λ c. search needs) (λ c. search needs) (λ c κs. search needs) (λ c. search needs)
-    (λ c. search needs) (λ c. search needs) (λ c κs. search needs) (λ c. search needs) (λ c. search needs) (λ c. search needs)
+put-group-spec = tie.close (tie.spec (λ c κs. search needs) (λ c. search needs) (λ c. search needs) (λ c. search needs) (λ c κs. search needs)
+    (λ c. search needs) (λ c. search needs) (λ c. search needs) (λ c κs. search needs) (λ c. search needs) (λ c. search needs) (λ c. search needs)
     (λ c κs. search needs) (λ c. search needs) (λ c. search needs) (λ c. search needs) (λ c κs. search needs) (λ c. search needs) returns)

@@ -66,16 +66,9 @@ returns c =
     (ballot-is (jobAt s) (headGroup (f .head)) (f .b) (f .plan .m) _ _ (listOf (f .plan .before)) _ (f .plan .a) _ (p .2) (c .before .before .before .before .low16 .ensures) (here r) (p .1 .first (p .2)) (r .before .still-in .ensures))
 
 pub write-first-spec : {M : Type 1} → statement M
-write-first-spec =
-    tie.close
-    (tie.spec
-    (λ c. omega (arith, ranked (c .before .before .before .before)))
+write-first-spec = tie.close (tie.spec (λ c. omega (arith, ranked (c .before .before .before .before)))
     (λ c κs. let s = c .before .before .before .before .before in (s .pre .1 .n-high, ranked s, s .pre .1 .gone-listed))
     (λ c κs. let s = c .before .before .before .before .before .before in (s .pre .1 .n-high, omega (arith, s .pre .1 .early)))
-    (λ c. omega (arith, here c, there (start c)))
-    (λ c. omega (arith, here (c .before), there (start (c .before))))
+    (λ c. omega (arith, here c, there (start c))) (λ c. omega (arith, here (c .before), there (start (c .before))))
     (λ c. let s = start (c .before) in omega (arith, s .pre .1 .K-high, s .pre .3))
-    (λ c κs. let s = start (c .before) in omega (arith, s .pre .1 .K-high, s .pre .3))
-    write-ballot-requires
-    (λ c. search needs)
-    returns)
+    (λ c κs. let s = start (c .before) in omega (arith, s .pre .1 .K-high, s .pre .3)) write-ballot-requires (λ c. search needs) returns)

@@ -111,10 +111,7 @@ returns c =
     (f .plan .m) (next s))
 
 pub write-later-spec : {M : Type 1} → statement M
-write-later-spec =
-    tie.close
-    (tie.spec
-    (λ c. omega (arith, ranked (c .before .before .before .before)))
+write-later-spec = tie.close (tie.spec (λ c. omega (arith, ranked (c .before .before .before .before)))
     (λ c κs. let s = c .before .before .before .before .before .before in (s .pre .1 .n-high, ranked s, s .pre .1 .before-listed))
     (λ c κs. let s = c .before .before .before .before .before .before .before in (s .pre .1 .n-high, ranked s, s .pre .1 .gone-listed))
     (λ c. omega (arith, c .before .before .before .before .before .before .before .before .pre .1 .early))
@@ -123,15 +120,9 @@ write-later-spec =
     (λ c. omega (arith, c .before .before .before .before .before .before .before .before .before .pre .1 .early))
     (λ c. omega (arith, c .before .before .before .before .before .before .before .before .before .pre .1 .n-high))
     (λ c κs. let s = c .before .before .before .before .before .before .before .before .before in omega (arith, s .pre .1 .n-high, s .pre .2))
-    (λ c κs. search needs)
-    (λ c. omega (arith, c .wide .ensures, left (start c) .low))
-    (λ c. omega (arith, start c .pre .2))
-    (λ c κs. (start c .pre .1 .n-high, omega (arith, start c .pre .1 .early)))
-    (λ c. omega (arith, older c, near-before (start (c .before))))
+    (λ c κs. search needs) (λ c. omega (arith, c .wide .ensures, left (start c) .low)) (λ c. omega (arith, start c .pre .2))
+    (λ c κs. (start c .pre .1 .n-high, omega (arith, start c .pre .1 .early))) (λ c. omega (arith, older c, near-before (start (c .before))))
     (λ c. omega (arith, older (c .before), near-before (start (c .before .before))))
     (λ c κs. let s = start (c .before .before) in (s .pre .1 .n-high, omega (arith, s .pre .1 .early)))
     (λ c. omega (arith, newer c, near (start (c .before .before .before)) _ refl))
-    (λ c. omega (arith, newer (c .before), near (start (c .before .before .before .before)) _ refl))
-    write-shift-requires
-    (λ c. search needs)
-    returns)
+    (λ c. omega (arith, newer (c .before), near (start (c .before .before .before .before)) _ refl)) write-shift-requires (λ c. search needs) returns)

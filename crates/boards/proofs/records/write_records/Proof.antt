@@ -60,18 +60,11 @@ loop-again c =
           (λ j h. length-record sha256 job g (listOf (f .plan .before)) (f .plan .a) (f .plan .m) j ∙ sym (r .ensures .0)) refl (l .inv .2) (c .before .before .write-record .ensures),
     )
 
-returns : tie.Need-returns Inv-loop μ-loop
-returns c =
-    let l = c .before .loop in
-    let e : l .b ≡ (start-from-record-length (c .before .before)) .args .head .k = omega arith in
-    l .inv .2 ∙ rw e
-
 pub write-records-spec : {M : Type 1} → statement M
-write-records-spec =
-    tie.close
-    (tie.spec Inv-loop μ-loop
+write-records-spec = tie.close (tie.spec Inv-loop μ-loop
     (λ c κs. (c .before .before .before .before .pre .1 .n-high, omega (arith, c .before .before .before .before .pre .1 .early))) loop-holds
     (λ c. omega (arith, within c, (start-from-record-length (c .before .before)) .good)) (λ c. omega (arith, within c, c .before .loop .inv .1))
     (λ c. omega (arith, within c, c .before .loop .inv .1)) (λ c. omega (arith, within c, c .before .loop .inv .1)) write-record-requires
-    (λ c. omega (arith, c .before .before .before .before .loop-test .taken, (start-from-out (c .before)) .pre .1 .K-high)) (λ c. search needs)
-    loop-again (λ c. search needs) returns)
+    (λ c. omega (arith, c .before .before .before .before .loop-test .taken, (start-from-out (c .before)) .pre .1 .K-high)) (λ c. search needs) loop-again
+    (λ c. search needs)
+    (λ c. let l = c .before .loop in let e : l .b ≡ (start-from-record-length (c .before .before)) .args .head .k = omega arith in l .inv .2 ∙ rw e))

@@ -56,15 +56,6 @@ returns-2 c =
     )
 
 pub plan-of-spec : {M : Type 1} → statement M
-plan-of-spec =
-    tie.close
-    (tie.spec
-    (λ c κs. omega (arith, c .pre))
-    returns
-    (λ c. omega (arith, c .if1 .left))
-    (λ c κs. omega (arith, c .before .before .pre))
-    (λ c. omega (arith, c .before .before .before .pre, c .before .before .before .good))
-    (λ c κs. omega (arith, c .before .before .before .pre))
-    (λ c. omega (arith, older c))
-    (λ c. omega (arith, older c))
-    returns-2)
+plan-of-spec = tie.close (tie.spec (λ c κs. omega (arith, c .pre)) returns (λ c. omega (arith, c .if1 .left)) (λ c κs. omega (arith, c .before .before .pre))
+    (λ c. omega (arith, c .before .before .before .pre, c .before .before .before .good)) (λ c κs. omega (arith, c .before .before .before .pre))
+    (λ c. omega (arith, older c)) (λ c. omega (arith, older c)) returns-2)

@@ -28,11 +28,6 @@ jobAt s = boardJob (s .args .head) (now (s .args .label)) (now (s .args .ranking
 below : (s : tie.Start) → (s .args .head .n ≤ 8) × (s .args .plan .m < s .args .head .n)
 below s = (s .pre .0 .1 .n-high, omega (arith, s .pre .0 .1 .few))
 
-write-records-requires : tie.Need-write-records-requires
-write-records-requires c κs =
-    let s = entry c in
-    (s .pre .0 .0, turned (jobAt s) (s .args .count .gone .order) (s .args .plan) (s .pre .0 .1) (s .pre .1 .0), omega (arith, s .pre .1 .1))
-
 -- where the sheet starts
 start : (c : tie.After-record-length) → let f = behind c .args in f .head .k * c .record-length .result ≡ f .head .k * recordLength (f .head .n) (f .plan .m)
 start c = ap (λ (x : ℕ). behind c .args .head .k * x) (c .record-length .ensures .0)
@@ -77,10 +72,9 @@ part : (c : tie.After-record-length) → let f = behind c .args in f .head .k * 
 part c = omega (arith, start c, behind c .pre .1 .1)
 
 pub write-round-spec : {M : Type 1} → statement M
-write-round-spec =
-    tie.close
-    (tie.spec (λ c. search needs) (λ c. search needs) write-records-requires (λ c κs. below (entry (c .before .before .before)))
-    (λ c. omega (arith, part (c .before), behind (c .before) .good)) (λ c κs. below (behind (c .before)))
+write-round-spec = tie.close (tie.spec (λ c. search needs) (λ c. search needs)
+    (λ c κs. let s = entry c in (s .pre .0 .0, turned (jobAt s) (s .args .count .gone .order) (s .args .plan) (s .pre .0 .1) (s .pre .1 .0), omega (arith, s .pre .1 .1)))
+    (λ c κs. below (entry (c .before .before .before))) (λ c. omega (arith, part (c .before), behind (c .before) .good)) (λ c κs. below (behind (c .before)))
     (λ c κs. omega (arith, below (behind (c .before .before))))
     (λ c. omega (arith, below (behind (c .before .before .before)), behind (c .before .before .before) .good))
     (λ c. let l = c .before .before .before in omega (arith, part l, l .before, l .before .before))

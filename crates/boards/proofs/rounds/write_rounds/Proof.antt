@@ -122,19 +122,14 @@ returns c =
     l .inv .5 ∙ rw e
 
 pub write-rounds-spec : {M : Type 1} → statement M
-write-rounds-spec =
-    tie.close
-    (tie.spec Inv-loop μ-loop
+write-rounds-spec = tie.close (tie.spec Inv-loop μ-loop
     (λ c. let p = c .before .before .before .before .before .before .before .pre in omega (arith, p .1 .few, p .1 .n-high)) loop-holds
     (λ c κs. (below c .0, below c .1, entry c .pre .1 .K-high, c .before .loop .inv .4))
     (λ c. omega (arith, within (c .before), c .before .before .loop .inv .2)) (λ c. omega (arith, within (c .before), c .before .before .loop .inv .2))
     (λ c. omega (arith, within (c .before), c .before .before .loop .inv .2)) write-round-requires (λ c κs. below (c .before .before .before .before .before))
-    (λ c. omega (arith, inside c, entry (loop c) .good))
-    (λ c κs. below (loop c) .0)
+    (λ c. omega (arith, inside c, entry (loop c) .good)) (λ c κs. below (loop c) .0)
     (λ c. omega (arith, inside (c .before), c .sheet-length .ensures, entry (loop (c .before)) .good))
-    (λ c. omega (arith, inside (c .before), c .sheet-length .ensures, entry (loop (c .before)) .good))
-    (λ c κs. below (loop (c .before)))
-    (λ c. omega (arith, draws-next c, near (loop (c .before .before))))
-    (λ c. omega (arith, draws-next c, near (loop (c .before .before))))
-    (λ c. omega (arith, below (loop (c .before .before))))
-    (λ c. omega (arith, loop (c .before .before) .loop-test .taken)) loop-again (λ c. search needs) returns)
+    (λ c. omega (arith, inside (c .before), c .sheet-length .ensures, entry (loop (c .before)) .good)) (λ c κs. below (loop (c .before)))
+    (λ c. omega (arith, draws-next c, near (loop (c .before .before)))) (λ c. omega (arith, draws-next c, near (loop (c .before .before))))
+    (λ c. omega (arith, below (loop (c .before .before)))) (λ c. omega (arith, loop (c .before .before) .loop-test .taken)) loop-again (λ c. search needs)
+    returns)

@@ -50,9 +50,6 @@ returns c =
     l .inv .2 _ (more _ _ _ _ _ _ refl (c .before .before .before .before .before .before .before .before .put-two .ensures) (c .before .before .before .before .put-two2 .ensures)) ∙ rw (e, sheet-whole (f .head .setup .group .q) (f .head .n) (f .head .k) (now (f .draws)) (f .plan .from) (f .plan .stride) (f .plan .m) (f .plan .gone) (f .sheet .counts))
 
 pub write-sheet-spec : {M : Type 1} → statement M
-write-sheet-spec =
-    tie.close
-    (tie.spec Inv-loop μ-loop (λ c κs. search needs) (λ c. search needs) (λ c. search needs) (λ c. search needs) (λ c. search needs)
-    (λ c κs. search needs) loop-holds (λ c. search needs) (λ c. search needs) (λ c. search needs) (λ c. search needs) (λ c. search needs)
-    (λ c. search needs) (λ c. search needs) (λ c. search needs) (λ c κs. search needs) (λ c. search needs) (λ c. search needs) loop-again
-    (λ c. search needs) returns)
+write-sheet-spec = tie.close (tie.spec Inv-loop μ-loop (λ c κs. search needs) (λ c. search needs) (λ c. search needs) (λ c. search needs) (λ c. search needs)
+    (λ c κs. search needs) loop-holds (λ c. search needs) (λ c. search needs) (λ c. search needs) (λ c. search needs) (λ c. search needs) (λ c. search needs)
+    (λ c. search needs) (λ c. search needs) (λ c κs. search needs) (λ c. search needs) (λ c. search needs) loop-again (λ c. search needs) returns)

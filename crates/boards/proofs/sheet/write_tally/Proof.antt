@@ -13,14 +13,5 @@ returns c =
     ∙ rw (c .before .before .before .before .before .before .before .before .sum-of .ensures, tally-is (now (f .draws)) (f .from) (f .stride) (f .k))
 
 pub write-tally-spec : {M : Type 1} → statement M
-write-tally-spec =
-    tie.close
-    (tie.spec
-    (λ c κs. search needs)
-    (λ c κs. search needs)
-    (λ c. search needs)
-    (λ c. search needs)
-    (λ c. search needs)
-    (λ c κs. search needs)
-    (λ c. search needs)
-    returns)
+write-tally-spec = tie.close (tie.spec (λ c κs. search needs) (λ c κs. search needs) (λ c. search needs) (λ c. search needs) (λ c. search needs)
+    (λ c κs. search needs) (λ c. search needs) returns)

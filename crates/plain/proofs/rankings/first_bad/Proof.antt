@@ -20,9 +20,6 @@ abbrev μ-loop : tie.MeasureT-loop
 up : (b k n : ℕ) → b < k → (b + 1) * n ≤ k * n
 up b k n h = mul-le-mul-right n (omega arith)
 
-loop-holds : tie.Need-loop-holds Inv-loop μ-loop
-loop-holds c = (omega arith, λ job en er. bad-none job)
-
 returns : tie.Need-returns Inv-loop μ-loop
 returns c =
     let l = c .before .before .before .loop in
@@ -37,24 +34,9 @@ loop-again c =
     let l = c .before .before .before .loop in
     (omega arith, λ job en er. bad-passed job (l .b) (l .inv .1 job en er) (rw (en, er) (sym (c .before .is-ranking .ensures) ∙ not-false _ (c .if1 .left))))
 
-returns-2 : tie.Need-returns-2 Inv-loop μ-loop
-returns-2 c =
-    let l = c .before .loop in
-    let e : l .b ≡ c .before .before .before .args .k = omega arith in
-    λ job en er. sym (l .inv .1 job en er) ∙ rw e
-
 pub first-bad-spec : {M : Type 1} → statement M
-first-bad-spec =
-    tie.close
-    (tie.spec
-    Inv-loop
-    μ-loop
-    loop-holds
+first-bad-spec = tie.close (tie.spec Inv-loop μ-loop (λ c. (omega arith, λ job en er. bad-none job))
     (λ c. let f = c .before .before .before .args in omega (arith, up (c .before .loop .b) (f .k) (f .n) (omega arith), c .before .before .before .pre))
     (λ c κs. let f = c .before .before .before .args in omega (arith, up (c .before .loop .b) (f .k) (f .n) (omega arith), c .before .before .before .pre))
-    (λ c. search needs)
-    returns
-    (λ c. search needs)
-    (λ c. search needs)
-    loop-again
-    returns-2)
+    (λ c. search needs) returns (λ c. search needs) (λ c. search needs) loop-again
+    (λ c. let l = c .before .loop in let e : l .b ≡ c .before .before .before .args .k = omega arith in λ job en er. sym (l .inv .1 job en er) ∙ rw e))

@@ -19,9 +19,6 @@ Inv-loop rankings at n gone i₀ i =
 abbrev μ-loop : tie.MeasureT-loop
 μ-loop rankings at n gone i₀ i = n - i
 
-loop-holds : tie.Need-loop-holds Inv-loop μ-loop
-loop-holds c = (omega arith, refl)
-
 returns : tie.Need-returns Inv-loop μ-loop
 returns c =
     let l = c .before .before .before .before .before .loop in
@@ -46,18 +43,5 @@ returns-2 c =
     first-none (now (f .rankings)) (f .at) (f .n) (l .i) (omega (arith, s .pre)) (listOf (f .gone)) (l .inv .1) (omega arith)
 
 pub first-in-spec : {M : Type 1} → statement M
-first-in-spec =
-    tie.close
-    (tie.spec
-    Inv-loop
-    μ-loop
-    loop-holds
-    (λ c. search needs)
-    (λ c. search needs)
-    (λ c κs. search needs)
-    (λ c κs. search needs)
-    returns
-    (λ c. search needs)
-    (λ c. search needs)
-    loop-again
-    returns-2)
+first-in-spec = tie.close (tie.spec Inv-loop μ-loop (λ c. (omega arith, refl)) (λ c. search needs) (λ c. search needs) (λ c κs. search needs)
+    (λ c κs. search needs) returns (λ c. search needs) (λ c. search needs) loop-again returns-2)

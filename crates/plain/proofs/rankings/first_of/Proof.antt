@@ -18,12 +18,6 @@ loop-holds : tie.Need-loop-holds Inv-loop μ-loop
 unfolding withZeros
 loop-holds c = (omega arith, refl)
 
-loop-again : tie.Need-loop-again Inv-loop μ-loop
-loop-again c =
-    let l = c .before .loop in
-    let s = c .before .before in
-    (omega arith, rw (l .inv .1) (first-more (s .args .t1) (l .i) (omega arith) (omega (arith, s .good))))
-
 returns : tie.Need-returns Inv-loop μ-loop
 returns c =
     let l = c .before .loop in
@@ -34,5 +28,6 @@ returns c =
     (refl, first-listed (s .args .t1) (l .first) (s .args .outs) (omega arith) long w, first-list (s .args .t1) (l .first) (s .args .outs) (omega arith) long w)
 
 pub first-of-spec : {M : Type 1} → statement M
-first-of-spec =
-    tie.close (tie.spec Inv-loop μ-loop loop-holds (λ c. search needs) (λ c. search needs) (λ c. search needs) (λ c. search needs) loop-again returns)
+first-of-spec = tie.close (tie.spec Inv-loop μ-loop loop-holds (λ c. search needs) (λ c. search needs) (λ c. search needs) (λ c. search needs)
+    (λ c. let l = c .before .loop in let s = c .before .before in (omega arith, rw (l .inv .1) (first-more (s .args .t1) (l .i) (omega arith) (omega (arith, s .good)))))
+    returns)

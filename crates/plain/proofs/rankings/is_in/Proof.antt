@@ -7,16 +7,7 @@ use borrow.Author.Needs.{needs}
 use Rattle.plain.proofs.rankings.is_in.Statement.{statement}
 use Rattle.plain.proofs.rankings.is_in.Tie as tie
 
-returns : tie.Need-returns
-returns c = let f = c .before .args in in-below (f .n) (listOf (f .gone)) (f .c) (omega arith)
-
-returns-2 : tie.Need-returns-2
-returns-2 c = let f = c .before .before .args in in-above (f .n) (listOf (f .gone)) (f .c) (omega arith) (omega arith)
-
-returns-3 : tie.Need-returns-3
-returns-3 c =
-    let f = c .before .before .before .args in
-    ap not (c .is-out .ensures) ∙ in-left (f .n) (listOf (f .gone)) (f .c) (omega arith) (omega arith)
-
 pub is-in-spec : {M : Type 1} → statement M
-is-in-spec = tie.close (tie.spec returns returns-2 (λ c κs. search needs) returns-3)
+is-in-spec = tie.close (tie.spec (λ c. let f = c .before .args in in-below (f .n) (listOf (f .gone)) (f .c) (omega arith))
+    (λ c. let f = c .before .before .args in in-above (f .n) (listOf (f .gone)) (f .c) (omega arith) (omega arith)) (λ c κs. search needs)
+    (λ c. let f = c .before .before .before .args in ap not (c .is-out .ensures) ∙ in-left (f .n) (listOf (f .gone)) (f .c) (omega arith) (omega arith)))

@@ -20,9 +20,6 @@ Inv-loop rankings at n i₀ i = (i ≤ n) × (allBelow i (λ j. member (suc j) (
 abbrev μ-loop : tie.MeasureT-loop
 μ-loop rankings at n i₀ i = n - i
 
-loop-holds : tie.Need-loop-holds Inv-loop μ-loop
-loop-holds c = (omega arith, all-none _)
-
 returns : tie.Need-returns Inv-loop μ-loop
 returns c =
     let l = c .before .before .before .loop in
@@ -48,16 +45,5 @@ returns-2 c =
     ∙ ranking-is (now (f .rankings)) (f .at) (f .n) (s .pre)
 
 pub is-ranking-spec : {M : Type 1} → statement M
-is-ranking-spec =
-    tie.close
-    (tie.spec
-    Inv-loop
-    μ-loop
-    loop-holds
-    (λ c. search needs)
-    (λ c κs. search needs)
-    returns
-    (λ c. search needs)
-    (λ c. search needs)
-    loop-again
-    returns-2)
+is-ranking-spec = tie.close (tie.spec Inv-loop μ-loop (λ c. (omega arith, all-none _)) (λ c. search needs) (λ c κs. search needs) returns (λ c. search needs)
+    (λ c. search needs) loop-again returns-2)

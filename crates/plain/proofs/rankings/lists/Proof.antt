@@ -18,9 +18,6 @@ Inv-loop rankings at n c i₀ i = (i ≤ n) × (member c (part rankings at i) �
 abbrev μ-loop : tie.MeasureT-loop
 μ-loop rankings at n c i₀ i = n - i
 
-loop-holds : tie.Need-loop-holds Inv-loop μ-loop
-loop-holds c = let f = c .before .args in (omega arith, member-none (f .c) (drop (f .at) (now (f .rankings))))
-
 returns : tie.Need-returns Inv-loop μ-loop
 returns c =
     let l = c .before .before .before .before .loop in
@@ -37,24 +34,7 @@ loop-again c =
     let fits : f .n ≤ length (drop (f .at) (now (f .rankings))) = simp length-drop (omega (arith, s .pre)) in
     (omega arith, member-more (f .c) (drop (f .at) (now (f .rankings))) (l .i) (omega arith) (l .inv .1) (λ e. c .if1 .left (c .before .wide .ensures ∙ sym (getD-drop (f .at) (now (f .rankings)) (l .i) 0) ∙ e)))
 
-returns-2 : tie.Need-returns-2 Inv-loop μ-loop
-returns-2 c =
-    let l = c .before .loop in
-    let e : l .i ≡ c .before .before .before .args .n = omega arith in
-    sym (l .inv .1) ∙ rw e
-
 pub lists-spec : {M : Type 1} → statement M
-lists-spec =
-    tie.close
-    (tie.spec
-    Inv-loop
-    μ-loop
-    loop-holds
-    (λ c. search needs)
-    (λ c. search needs)
-    (λ c κs. search needs)
-    returns
-    (λ c. search needs)
-    (λ c. search needs)
-    loop-again
-    returns-2)
+lists-spec = tie.close (tie.spec Inv-loop μ-loop (λ c. let f = c .before .args in (omega arith, member-none (f .c) (drop (f .at) (now (f .rankings)))))
+    (λ c. search needs) (λ c. search needs) (λ c κs. search needs) returns (λ c. search needs) (λ c. search needs) loop-again
+    (λ c. let l = c .before .loop in let e : l .i ≡ c .before .before .before .args .n = omega arith in sym (l .inv .1) ∙ rw e))

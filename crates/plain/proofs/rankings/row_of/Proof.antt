@@ -15,9 +15,6 @@ Inv-loop size a list i₀ i = (i ≤ size) × (rowOf a (take size list) ≡ i + 
 abbrev μ-loop : tie.MeasureT-loop
 μ-loop size a list i₀ i = size - i
 
-loop-holds : tie.Need-loop-holds Inv-loop μ-loop
-loop-holds c = (omega arith, omega arith)
-
 returns : tie.Need-returns Inv-loop μ-loop
 returns c =
     let l = c .before .before .loop in
@@ -40,15 +37,5 @@ returns-2 c =
     place-end (f .t1) (f .size) (f .a) (l .i) (omega (arith, s .good)) (omega arith) (l .inv .1)
 
 pub row-of-spec : {M : Type 1} → statement M
-row-of-spec =
-    tie.close
-    (tie.spec
-    Inv-loop
-    μ-loop
-    loop-holds
-    (λ c. search needs)
-    returns
-    (λ c. search needs)
-    (λ c. search needs)
-    loop-again
-    returns-2)
+row-of-spec = tie.close (tie.spec Inv-loop μ-loop (λ c. (omega arith, omega arith)) (λ c. search needs) returns (λ c. search needs) (λ c. search needs)
+    loop-again returns-2)

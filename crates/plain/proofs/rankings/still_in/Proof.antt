@@ -49,17 +49,9 @@ loop-again c =
     (omega arith, w .1 ∙ l .inv .1 ∙ ap withZeros (standing-out gone s (f .at) (l .i) h e), w .2 ∙ l .inv .2 ∙ ap length (standing-out gone s (f .at) (l .i) h e)))
     (c .if1 .came)
 
-returns : tie.Need-returns Inv-loop μ-loop
-returns c =
-    let l = c .before .loop in
-    let f = c .before .before .before .args in
-    let e : l .i ≡ f .n = omega arith in
-    l .inv .1 ∙ rw e
-
 pub still-in-spec : {M : Type 1} → statement M
-still-in-spec =
-    tie.close
-    (tie.spec Inv-loop μ-loop loop-holds (λ c. search needs) (λ c. search needs) (λ c κs. search needs) (λ c κs. search needs)
+still-in-spec = tie.close (tie.spec Inv-loop μ-loop loop-holds (λ c. search needs) (λ c. search needs) (λ c κs. search needs) (λ c κs. search needs)
     (λ c. omega (arith, part-few (listOf (c .before .before .before .before .before .before .before .args .gone)) (now (c .before .before .before .before .before .before .before .args .rankings)) (c .before .before .before .before .before .before .before .args .at) (c .before .before .before .before .before .loop .i), c .before .before .before .before .before .loop .inv .2, c .before .before .before .before .before .before .before .pre))
     (λ c. omega (arith, part-few (listOf (c .before .before .before .before .before .before .before .args .gone)) (now (c .before .before .before .before .before .before .before .args .rankings)) (c .before .before .before .before .before .before .before .args .at) (c .before .before .before .before .before .loop .i), c .before .before .before .before .before .loop .inv .2, c .before .before .before .before .before .before .before .pre))
-    (λ c. search needs) (λ c. search needs) loop-again returns)
+    (λ c. search needs) (λ c. search needs) loop-again
+    (λ c. let l = c .before .loop in let f = c .before .before .before .args in let e : l .i ≡ f .n = omega arith in l .inv .1 ∙ rw e))

@@ -53,9 +53,7 @@ loop-again c =
     )
 
 pub count-spec : {M : Type 1} → statement M
-count-spec =
-    tie.close
-    (tie.spec Inv-loop μ-loop (λ c κs. search needs) loop-holds
+count-spec = tie.close (tie.spec Inv-loop μ-loop (λ c κs. search needs) loop-holds
     (λ c κs. let s = c .before .before .before .before in (omega (arith, s .pre), omega (arith, s .pre), omega (arith, s .pre), c .before .loop .inv .0 .listed))
     (λ c. omega (arith, c .before .before .before .before .before .pre))
     (λ c κs. let s = c .before .before .before .before .before in (c .before .before .loop .inv .0, omega (arith, s .pre), omega (arith, s .pre)))

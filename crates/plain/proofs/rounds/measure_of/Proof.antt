@@ -36,15 +36,8 @@ loop-again c =
       omega (arith, short (c .before), c .sheet-length .ensures .1, l .inv .4),
     )
 
-returns : tie.Need-returns Inv-loop μ-loop
-returns c =
-    let l = c .before .loop in
-    let e : l .m ≡ c .before .before .args .rounds = omega arith in
-    (l .inv .1 ∙ rw e, l .inv .2 ∙ rw e, omega (arith, l .inv .3))
-
 pub measure-of-spec : {M : Type 1} → statement M
-measure-of-spec =
-    tie.close
-    (tie.spec Inv-loop μ-loop loop-holds (λ c κs. search needs) (λ c. omega (arith, few c)) (λ c. omega (arith, few c)) (λ c κs. search needs)
-    (λ c. omega (arith, short c)) (λ c κs. search needs) (λ c. omega (arith, short (c .before), c .sheet-length .ensures .1))
-    (λ c. omega (arith, short (c .before), c .sheet-length .ensures .1)) (λ c. omega arith) (λ c. omega arith) loop-again returns)
+measure-of-spec = tie.close (tie.spec Inv-loop μ-loop loop-holds (λ c κs. search needs) (λ c. omega (arith, few c)) (λ c. omega (arith, few c))
+    (λ c κs. search needs) (λ c. omega (arith, short c)) (λ c κs. search needs) (λ c. omega (arith, short (c .before), c .sheet-length .ensures .1))
+    (λ c. omega (arith, short (c .before), c .sheet-length .ensures .1)) (λ c. omega arith) (λ c. omega arith) loop-again
+    (λ c. let l = c .before .loop in let e : l .m ≡ c .before .before .args .rounds = omega arith in (l .inv .1 ∙ rw e, l .inv .2 ∙ rw e, omega (arith, l .inv .3))))

@@ -13,15 +13,9 @@ few c = cells (c .before .args .n) (c .before .pre .0)
 fewer : (c : tie.Else1) → let f = c .before .args in Later (f .n) (f .m) (2 + (f .n - f .m) * f .n)
 fewer c = let f = c .before .args in later (f .n) (f .m) (2 + (f .n - f .m) * f .n) (c .before .pre .0) (c .if1 .left)
 
-returns : tie.Need-returns
-returns c = let f = c .before .args in (sym (draws-first (f .n) (f .m) (c .if1 .taken)), omega (arith, few c, c .before .pre))
-
-returns-2 : tie.Need-returns-2
-returns-2 c = let f = c .before .args in (sym (draws-later (f .n) (f .m) (c .if1 .left)), omega (arith, fewer c))
-
 pub record-draws-spec : {M : Type 1} → statement M
-record-draws-spec =
-    tie.close
-    (tie.spec (λ c. omega (arith, few c)) (λ c. omega (arith, few c)) (λ c. search needs) (λ c. omega (arith, few c)) returns (λ c. search needs)
+record-draws-spec = tie.close (tie.spec (λ c. omega (arith, few c)) (λ c. omega (arith, few c)) (λ c. search needs) (λ c. omega (arith, few c))
+    (λ c. let f = c .before .args in (sym (draws-first (f .n) (f .m) (c .if1 .taken)), omega (arith, few c, c .before .pre))) (λ c. search needs)
     (λ c. omega (arith, fewer c)) (λ c. search needs) (λ c. omega (arith, fewer c)) (λ c. omega (arith, fewer c)) (λ c. omega (arith, fewer c))
-    (λ c. omega (arith, fewer c)) (λ c. omega (arith, fewer c)) returns-2)
+    (λ c. omega (arith, fewer c)) (λ c. omega (arith, fewer c))
+    (λ c. let f = c .before .args in (sym (draws-later (f .n) (f .m) (c .if1 .left)), omega (arith, fewer c))))

@@ -49,10 +49,8 @@ returns c =
     counts-are (l .counts) (f .n) (listOf (f .gone)) (table (f .k) (λ d. part (now (f .rankings)) (d * f .n) (f .n))) (l .inv .1) (omega (arith, s .pre)) (rw (← e) (l .inv .3))
 
 pub tally-spec : {M : Type 1} → statement M
-tally-spec =
-    tie.close
-    (tie.spec Inv-loop μ-loop loop-holds
+tally-spec = tie.close (tie.spec Inv-loop μ-loop loop-holds
     (λ c. omega (arith, mul-le-mul-right {m = c .before .loop .b + 1} {n = c .before .before .before .args .k} (c .before .before .before .args .n) (omega arith), c .before .before .before))
     (λ c κs. (omega (arith, mul-le-mul-right {m = c .before .loop .b + 1} {n = c .before .before .before .args .k} (c .before .before .before .args .n) (omega arith), c .before .before .before .pre), c .before .before .before .pre .3))
-    (λ c κs. λ i h. omega (arith, c .before .before .loop .inv .2 i h, c .before .before .before .before .pre)) (λ c. search needs)
-    (λ c. search needs) loop-again returns)
+    (λ c κs. λ i h. omega (arith, c .before .before .loop .inv .2 i h, c .before .before .before .before .pre)) (λ c. search needs) (λ c. search needs)
+    loop-again returns)

@@ -7,9 +7,6 @@ use borrow.Author.Needs.{needs}
 use Rattle.plain.proofs.votes.voted.Statement.{statement}
 use Rattle.plain.proofs.votes.voted.Tie as tie
 
-add-r : tie.Need-add-r
-add-r c = omega (arith, c .before .before .pre (c .before .before .args .c - 1) (omega arith))
-
 returns : tie.Need-returns
 returns c =
     let s = c .before .before in
@@ -17,19 +14,8 @@ returns c =
     let e : length (f .counts) ≡ 8 = omega (arith, s .good) in
     (simp length-set e, vote-one (f .counts) (f .c) e (omega arith) (omega arith))
 
-returns-2 : tie.Need-returns-2
-returns-2 c =
-    let s = c .before .before in
-    let f = s .args in
-    (omega (arith, s .good), λ i h. vote-none (getD (f .counts) i 0) (f .c) i (λ e. omega arith))
-
-returns-3 : tie.Need-returns-3
-returns-3 c =
-    let s = c .before in
-    let f = s .args in
-    (omega (arith, s .good), λ i h. vote-none (getD (f .counts) i 0) (f .c) i (λ e. omega arith))
-
 pub voted-spec : {M : Type 1} → statement M
-voted-spec =
-    tie.close
-    (tie.spec (λ c. search needs) (λ c. search needs) (λ c. search needs) add-r (λ c. search needs) (λ c. search needs) returns returns-2 returns-3)
+voted-spec = tie.close (tie.spec (λ c. search needs) (λ c. search needs) (λ c. search needs)
+    (λ c. omega (arith, c .before .before .pre (c .before .before .args .c - 1) (omega arith))) (λ c. search needs) (λ c. search needs) returns
+    (λ c. let s = c .before .before in let f = s .args in (omega (arith, s .good), λ i h. vote-none (getD (f .counts) i 0) (f .c) i (λ e. omega arith)))
+    (λ c. let s = c .before in let f = s .args in (omega (arith, s .good), λ i h. vote-none (getD (f .counts) i 0) (f .c) i (λ e. omega arith))))

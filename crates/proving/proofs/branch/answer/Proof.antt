@@ -31,9 +31,6 @@ start-from-response-arg c = start-from-out (c .before .before .before .before .b
 abbrev start-from-slice-known3 : tie.After-slice-known3 Inv-loop μ-loop → tie.Start Inv-loop μ-loop
 start-from-slice-known3 c = start-from-response-arg (c .before .before .before .before .before)
 
-loop-holds : tie.Need-loop-holds Inv-loop μ-loop
-loop-holds c = (omega arith, refl, λ o n h. h ∙ branch-none _ _ _ o)
-
 loop-again : tie.Need-loop-again Inv-loop μ-loop
 loop-again c =
     let l = c .before .before .before .before .before .before .before .before .loop in
@@ -51,8 +48,7 @@ returns c =
     rw (← e) (l .inv .2 _ (omega arith) (c .before .before .before .before .put-number4 .ensures))
 
 pub answer-spec : {M : Type 1} → statement M
-answer-spec =
-    tie.close
-    (tie.spec Inv-loop μ-loop (λ c κs. search needs) loop-holds (λ c. search needs) (λ c. search needs) (λ c. search needs) (λ c. search needs)
-    (λ c. search needs) (λ c. search needs) (λ c. search needs) (λ c κs. search needs) (λ c. search needs) (λ c. search needs) (λ c. search needs)
-    (λ c κs. search needs) (λ c. search needs) (λ c. search needs) loop-again (λ c. search needs) returns)
+answer-spec = tie.close (tie.spec Inv-loop μ-loop (λ c κs. search needs) (λ c. (omega arith, refl, λ o n h. h ∙ branch-none _ _ _ o)) (λ c. search needs)
+    (λ c. search needs) (λ c. search needs) (λ c. search needs) (λ c. search needs) (λ c. search needs) (λ c. search needs) (λ c κs. search needs)
+    (λ c. search needs) (λ c. search needs) (λ c. search needs) (λ c κs. search needs) (λ c. search needs) (λ c. search needs) loop-again (λ c. search needs)
+    returns)

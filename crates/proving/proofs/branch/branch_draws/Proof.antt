@@ -18,11 +18,6 @@ add-at-2 c =
     let u : f .l * (1 + f .plan .statements) ≤ 8 * (1 + f .plan .statements) = mul-le-mul-right (1 + f .plan .statements) (omega arith) in
     omega arith
 
-returns : tie.Need-returns
-returns c = rw (lt-ltb _ _ (c .if1 .taken))
-
-returns-2 : tie.Need-returns-2
-returns-2 c = rw (le-ltb _ _ (c .if1 .left)) (omega arith)
-
 pub branch-draws-spec : {M : Type 1} → statement M
-branch-draws-spec = tie.close (tie.spec (λ c. search needs) mul-at add-at-2 (λ c. search needs) returns returns-2)
+branch-draws-spec = tie.close (tie.spec (λ c. search needs) mul-at add-at-2 (λ c. search needs) (λ c. rw (lt-ltb _ _ (c .if1 .taken)))
+    (λ c. rw (le-ltb _ _ (c .if1 .left)) (omega arith)))

@@ -37,9 +37,6 @@ start-from-slice-known2 c = start-from-group (c .before .before .before .before 
 abbrev start-from-put-false-arg : tie.After-put-false-arg Inv-loop μ-loop → tie.Start Inv-loop μ-loop
 start-from-put-false-arg c = start-from-slice-known2 (c .before .before .before .before .before)
 
-loop-holds : tie.Need-loop-holds Inv-loop μ-loop
-loop-holds c = (omega arith, refl, λ o h. h ∙ branch-none _ _ _ o, λ m h. fed-none _ m _ h)
-
 loop-again : tie.Need-loop-again Inv-loop μ-loop
 loop-again c =
     let l = c .before .before .before .before .before .before .before .loop in
@@ -60,16 +57,12 @@ returns c =
     let e : l .i ≡ (start-from-slice-known2 (c .before .before)) .args .branch .plan .statements = omega arith in
     rw (← e) (record { wrote = l .inv .2 _ (c .before .before .before .before .put-number4 .ensures); fed = l .inv .3 })
 
-claimed-requires : tie.Need-claimed-requires Inv-loop μ-loop
-claimed-requires c κs = let s = (start-from-slice-known2 (c .before .before)) in (s .pre .0 .0, s .pre .1 .1 (c .before .loop .i) (omega arith))
-
 pub false-branch-spec : {M : Type 1} → statement M
-false-branch-spec =
-    tie.close
-    (tie.spec Inv-loop μ-loop (λ c. search needs) (λ c. search needs) (λ c κs. search needs) loop-holds claimed-requires (λ c. search needs)
+false-branch-spec = tie.close (tie.spec Inv-loop μ-loop (λ c. search needs) (λ c. search needs) (λ c κs. search needs)
+    (λ c. (omega arith, refl, λ o h. h ∙ branch-none _ _ _ o, λ m h. fed-none _ m _ h))
+    (λ c κs. let s = (start-from-slice-known2 (c .before .before)) in (s .pre .0 .0, s .pre .1 .1 (c .before .loop .i) (omega arith))) (λ c. search needs)
     (λ c. search needs) (λ c. omega (arith, (start-from-slice-known2 (c .before .before .before))))
-    (λ c. omega (arith, (start-from-slice-known2 (c .before .before .before))))
-    (λ c. omega (arith, (start-from-slice-known2 (c .before .before .before))))
+    (λ c. omega (arith, (start-from-slice-known2 (c .before .before .before)))) (λ c. omega (arith, (start-from-slice-known2 (c .before .before .before))))
     (λ c. omega (arith, (start-from-slice-known2 (c .before .before .before .before)))) (λ c. search needs) (λ c. search needs) (λ c. search needs)
     (λ c κs. omega (arith, (start-from-put-false-arg c)))
     (λ c. omega (arith, (start-from-put-false-arg (c .before .before .before)) .pre, c .before .before .before .before .before .before .loop-test .taken))

@@ -26,9 +26,6 @@ Inv-loop out₀ g statements draws at k₀ i₀ out k i =
 abbrev μ-loop : tie.MeasureT-loop
 μ-loop out₀ g statements draws at k₀ i₀ out k i = statements - i
 
-loop-holds : tie.Need-loop-holds Inv-loop μ-loop
-loop-holds c = (omega arith, refl, λ o h. h ∙ branch-none _ _ _ o, λ m h. fed-none _ m _ h)
-
 loop-again : tie.Need-loop-again Inv-loop μ-loop
 loop-again c =
     let p = c .before .before .put-true in
@@ -50,24 +47,7 @@ returns c =
     rw (← e) (record { wrote = l .inv .2 _ (c .before .before .before .before .put-number4 .ensures); fed = l .inv .3 })
 
 pub true-branch-spec : {M : Type 1} → statement M
-true-branch-spec =
-    tie.close
-    (tie.spec
-    Inv-loop
-    μ-loop
-    (λ c κs. search needs)
-    loop-holds
-    (λ c. search needs)
-    (λ c. search needs)
-    (λ c. search needs)
-    (λ c. search needs)
-    (λ c. search needs)
-    (λ c. search needs)
-    (λ c. search needs)
-    (λ c. search needs)
-    (λ c κs. search needs)
-    (λ c. search needs)
-    (λ c. search needs)
-    loop-again
-    (λ c. search needs)
-    returns)
+true-branch-spec = tie.close (tie.spec Inv-loop μ-loop (λ c κs. search needs)
+    (λ c. (omega arith, refl, λ o h. h ∙ branch-none _ _ _ o, λ m h. fed-none _ m _ h)) (λ c. search needs) (λ c. search needs) (λ c. search needs)
+    (λ c. search needs) (λ c. search needs) (λ c. search needs) (λ c. search needs) (λ c. search needs) (λ c κs. search needs) (λ c. search needs)
+    (λ c. search needs) loop-again (λ c. search needs) returns)

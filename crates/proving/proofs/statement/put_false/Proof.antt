@@ -12,6 +12,4 @@ returns c =
     stated-false _ _ _ _ _ (parametersOf (f .g)) (statementOf (f .s)) (f .e .0) (f .r .0) _ _ (w .before .before .before .commitment .ensures) (w .before .before .commitment2 .ensures) (w .put-statement .ensures)
 
 pub put-false-spec : {M : Type 1} → statement M
-put-false-spec =
-    tie.close
-    (tie.spec (λ c κs. search needs) (λ c κs. search needs) (λ c κs. search needs) (λ c. search needs) returns)
+put-false-spec = tie.close (tie.spec (λ c κs. search needs) (λ c κs. search needs) (λ c κs. search needs) (λ c. search needs) returns)

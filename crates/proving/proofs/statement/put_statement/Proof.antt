@@ -34,8 +34,6 @@ returns c =
     record { wrote = e; fed = λ m h. subst (λ (x : List ℕ). Fed (c .update .result) (m ++ x)) (taken (bytes4 (f .t1 .0) ++ bytes4 (f .t2 .0)) (bytes4 (f .r .0)) (now (f .out)) _ 8 refl e) (c .update .ensures m h) }
 
 pub put-statement-spec : {M : Type 1} → statement M
-put-statement-spec =
-    tie.close
-    (tie.spec (λ c κs. search needs) (λ c. search needs) (λ c. search needs) (λ c. search needs) (λ c κs. search needs) (λ c. search needs)
-    (λ c. search needs) (λ c. search needs) (λ c κs. search needs) (λ c. search needs) slice-aggregate-update (λ c κs. search needs)
+put-statement-spec = tie.close (tie.spec (λ c κs. search needs) (λ c. search needs) (λ c. search needs) (λ c. search needs) (λ c κs. search needs)
+    (λ c. search needs) (λ c. search needs) (λ c. search needs) (λ c κs. search needs) (λ c. search needs) slice-aggregate-update (λ c κs. search needs)
     (λ c. search needs) returns)

@@ -11,5 +11,4 @@ returns c =
     stated-true _ _ _ _ _ (parametersOf (f .g)) (f .nonce .0) _ _ (w .before .before .before .pow .ensures) (w .before .before .pow2 .ensures) (w .put-statement .ensures)
 
 pub put-true-spec : {M : Type 1} → statement M
-put-true-spec =
-    tie.close (tie.spec (λ c κs. search needs) (λ c κs. search needs) (λ c κs. search needs) (λ c. search needs) returns)
+put-true-spec = tie.close (tie.spec (λ c κs. search needs) (λ c κs. search needs) (λ c κs. search needs) (λ c. search needs) returns)

@@ -35,6 +35,5 @@ unfolding claimOf
 returns-3 c = rw (c .before .before .claim3 .given .1) (c .claimed-shift .ensures)
 
 pub claimed-spec : {M : Type 1} → statement M
-claimed-spec =
-    tie.close
-    (tie.spec (λ c. search needs) claimed-entry-requires (λ c. search needs) claimed-line-requires (λ c. search needs) claimed-shift-requires returns returns-2 returns-3)
+claimed-spec = tie.close (tie.spec (λ c. search needs) claimed-entry-requires (λ c. search needs) claimed-line-requires (λ c. search needs)
+    claimed-shift-requires returns returns-2 returns-3)

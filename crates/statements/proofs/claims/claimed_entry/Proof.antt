@@ -19,6 +19,4 @@ returns-2 c =
     ∙ entry-one (parametersOf (start .args .g .group)) (start .args .g .inverse .0) (start .pre .0 .inverse) _ _ _ (c .before .if1 .left))
 
 pub claimed-entry-spec : {M : Type 1} → statement M
-claimed-entry-spec =
-    tie.close
-    (tie.spec (λ c κs. search needs) (λ c. search needs) (λ c κs. search needs) returns (λ c κs. search needs) returns-2)
+claimed-entry-spec = tie.close (tie.spec (λ c κs. search needs) (λ c. search needs) (λ c κs. search needs) returns (λ c κs. search needs) returns-2)

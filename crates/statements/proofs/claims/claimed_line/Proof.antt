@@ -14,11 +14,6 @@ returns c =
     (c .before .before .product .ensures) (c .before .product2 .ensures)
 
 pub claimed-line-spec : {M : Type 1} → statement M
-claimed-line-spec =
-    tie.close
-    (tie.spec
-    (λ c κs. (c .before .pre .0 .p-pos, λ j l. omega (arith, c .before .pre .1 .fits j l)))
+claimed-line-spec = tie.close (tie.spec (λ c κs. (c .before .pre .0 .p-pos, λ j l. omega (arith, c .before .pre .1 .fits j l)))
     (λ c. omega (arith, c .before .before .good, c .before .before .pre .1 .some, c .before .before .pre .1 .fits 0 (c .before .before .pre .1 .some)))
-    (λ c κs. (c .before .before .pre .0 .p-pos, λ j l. omega (arith, c .before .before .pre .1 .fits j l)))
-    (λ c κs. search needs)
-    returns)
+    (λ c κs. (c .before .before .pre .0 .p-pos, λ j l. omega (arith, c .before .before .pre .1 .fits j l))) (λ c κs. search needs) returns)

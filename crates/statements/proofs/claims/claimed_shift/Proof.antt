@@ -62,16 +62,14 @@ returns-3 c =
     (inverted (2 * from) (omega arith)) (inverted (2 * from + 1) (omega arith))
 
 pub claimed-shift-spec : {M : Type 1} → statement M
-claimed-shift-spec =
-    tie.close
-    (tie.spec (λ c. omega (arith, pair-fits c)) (λ c. omega (arith, pair-fits c)) (λ c. omega (arith, pair-fits (c .before)))
+claimed-shift-spec = tie.close (tie.spec (λ c. omega (arith, pair-fits c)) (λ c. omega (arith, pair-fits c)) (λ c. omega (arith, pair-fits (c .before)))
     (λ c. omega (arith, pair-fits (c .before))) (λ c. omega (arith, pair-fits (c .before)))
-    (λ c κs. (c .before .before .before .before .pre .0, pair-fits (c .before) .0)) returns (λ c. search needs) (λ c. omega (arith, row-fits c)) (λ c. omega (arith, row-fits c))
-    (λ c. omega (arith, row-fits c)) (λ c κs. (c .before .before .before .before .pre .0 .p-pos, λ j h. omega (arith, row-fits c)))
-    (λ c. omega (arith, row-fits (c .before)))
+    (λ c κs. (c .before .before .before .before .pre .0, pair-fits (c .before) .0)) returns (λ c. search needs) (λ c. omega (arith, row-fits c))
+    (λ c. omega (arith, row-fits c)) (λ c. omega (arith, row-fits c))
+    (λ c κs. (c .before .before .before .before .pre .0 .p-pos, λ j h. omega (arith, row-fits c))) (λ c. omega (arith, row-fits (c .before)))
     (λ c κs. (c .before .before .before .before .before .pre .0 .p-pos, λ j h. omega (arith, row-fits (c .before)))) returns-2 (λ c. search needs)
-    (λ c κs. search needs) (λ c. search needs) (λ c. search needs) (λ c. search needs) (λ c κs. search needs) (λ c. search needs)
-    (λ c κs. search needs) (λ c. omega (arith, source-fits (c .before .before))) (λ c. omega (arith, source-fits (c .before .before)))
+    (λ c κs. search needs) (λ c. search needs) (λ c. search needs) (λ c. search needs) (λ c κs. search needs) (λ c. search needs) (λ c κs. search needs)
+    (λ c. omega (arith, source-fits (c .before .before))) (λ c. omega (arith, source-fits (c .before .before)))
     (λ c. omega (arith, source-fits (c .before .before .before))) (λ c. omega (arith, source-fits (c .before .before .before)))
     (λ c. omega (arith, source-fits (c .before .before .before))) (λ c. omega (arith, source-fits (c .before .before .before)))
     (λ c. omega (arith, source-fits (c .before .before .before .before))) (λ c κs. search needs) (λ c κs. search needs) returns-3)

@@ -18,9 +18,6 @@ Inv-loop s p q at words table₀ e u₀ table u = (u ≤ words) × InverseTable 
 abbrev μ-loop : tie.MeasureT-loop
 μ-loop s p q at words table₀ e u₀ table u = words - u
 
-loop-holds : tie.Need-loop-holds Inv-loop μ-loop
-loop-holds c = (omega arith, record { long = refl; inverted = λ v h. absurd (omega arith); zeros = λ v h. zero-everywhere 128 v })
-
 loop-again : tie.Need-loop-again Inv-loop μ-loop
 loop-again c =
     let a = c .before .before .before .before .before .args in
@@ -36,15 +33,9 @@ loop-again c =
       },
     )
 
-returns : tie.Need-returns Inv-loop μ-loop
-returns c =
-    let l = c .before .loop in
-    let e : l .u ≡ c .before .before .before .args .words = omega arith in
-    rw (← e) (l .inv .1)
-
 pub inverse-table-spec : {M : Type 1} → statement M
-inverse-table-spec =
-    tie.close
-    (tie.spec Inv-loop μ-loop (λ c. search needs) loop-holds (λ c. omega (arith, c .before .before .before .good))
-    (λ c. omega (arith, c .before .before .before .good)) (λ c. omega (arith, c .before .before .before .good)) (λ c κs. omega arith)
-    (λ c κs. search needs) (λ c. omega arith) (λ c. omega arith) (λ c. omega arith) (λ c. omega arith) loop-again returns)
+inverse-table-spec = tie.close (tie.spec Inv-loop μ-loop (λ c. search needs)
+    (λ c. (omega arith, record { long = refl; inverted = λ v h. absurd (omega arith); zeros = λ v h. zero-everywhere 128 v }))
+    (λ c. omega (arith, c .before .before .before .good)) (λ c. omega (arith, c .before .before .before .good))
+    (λ c. omega (arith, c .before .before .before .good)) (λ c κs. omega arith) (λ c κs. search needs) (λ c. omega arith) (λ c. omega arith) (λ c. omega arith)
+    (λ c. omega arith) loop-again (λ c. let l = c .before .loop in let e : l .u ≡ c .before .before .before .args .words = omega arith in rw (← e) (l .inv .1)))

@@ -83,11 +83,6 @@ fits c =
       omega (arith, (start-from-loop (c .before)) .good),
     )
 
-loop-holds : tie.Need-loop-holds Inv-loop μ-loop Inv-branches μ-branches
-loop-holds c =
-    let o = c .before .before .before .branches in
-    (omega arith, o .inv .1, all-none _, λ m f. rw nothing-more f)
-
 statement-at-requires : tie.Need-statement-at-requires Inv-loop μ-loop Inv-branches μ-branches
 statement-at-requires c κs =
     let pre = (start-from-loop (c .before)) .pre in (
@@ -107,10 +102,6 @@ this : (c : tie.After-statement-at Inv-loop μ-loop Inv-branches μ-branches) �
     (a .shape .statements)
     (c .before .before .before .before .before .before .branches .l) (c .before .before .loop .i)
 this c = rw (← c .before .before .before .before .as-exponent .ensures) (c .statement-at .ensures)
-
-add-i : tie.Need-add-i Inv-loop μ-loop Inv-branches μ-branches
-add-i c =
-    omega (arith, (start-from-update c) .good, c .before .before .before .before .loop-test .taken)
 
 loop-again : tie.Need-loop-again Inv-loop μ-loop Inv-branches μ-branches
 loop-again c =
@@ -200,11 +191,11 @@ returns-2 c m f =
     (c .before .before .before .before .finish .ensures _ (k .fed m f)))
 
 pub proof-holds-spec : {M : Type 1} → statement M
-proof-holds-spec =
-    tie.close
-    (tie.spec Inv-loop μ-loop Inv-branches μ-branches branches-holds (λ c. omega (arith, branch-fits c))
+proof-holds-spec = tie.close (tie.spec Inv-loop μ-loop Inv-branches μ-branches branches-holds (λ c. omega (arith, branch-fits c))
     (λ c. omega (arith, branch-fits c)) (λ c. omega (arith, branch-fits c)) (λ c. omega (arith, branch-fits c)) (λ c κs. omega (arith, branch-fits c))
-    (λ c κs. search needs) loop-holds (λ c. omega (arith, fits c)) (λ c. omega (arith, fits c)) (λ c. omega (arith, fits c)) statement-at-requires
+    (λ c κs. search needs) (λ c. let o = c .before .before .before .branches in (omega arith, o .inv .1, all-none _, λ m f. rw nothing-more f))
+    (λ c. omega (arith, fits c)) (λ c. omega (arith, fits c)) (λ c. omega (arith, fits c)) statement-at-requires (λ c. omega (arith, fits (c .before .before)))
     (λ c. omega (arith, fits (c .before .before))) (λ c. omega (arith, fits (c .before .before))) (λ c. omega (arith, fits (c .before .before)))
-    (λ c. omega (arith, fits (c .before .before))) (λ c κs. search needs) add-i (λ c. omega arith) loop-again (λ c. omega arith) (λ c. omega arith)
-    branches-again (λ c m _. after (c .before) .1 (not-true _ (c .if2 .taken)) m) (λ c κs. search needs) (λ c κs. search needs) returns-2)
+    (λ c κs. search needs) (λ c. omega (arith, (start-from-update c) .good, c .before .before .before .before .loop-test .taken)) (λ c. omega arith) loop-again
+    (λ c. omega arith) (λ c. omega arith) branches-again (λ c m _. after (c .before) .1 (not-true _ (c .if2 .taken)) m) (λ c κs. search needs)
+    (λ c κs. search needs) returns-2)

@@ -32,12 +32,6 @@ returns c =
     let a = c .before .before .before .before .args in
     rw (exponent-refused (now (a .board)) (a .at) (a .q) (sym (c .before .before .exponent .ensures) ∙ c .enum-told .given .1))
 
-loop-holds : tie.Need-loop-holds Inv-loop μ-loop
-loop-holds c = (omega arith, walked-none _ _ (omega (arith, first c .1)))
-
-statement-fields-requires : tie.Need-statement-fields-requires Inv-loop μ-loop
-statement-fields-requires c κs = omega (arith, c .before .loop .inv .1 .here)
-
 returns-2 : tie.Need-returns-2 Inv-loop μ-loop
 returns-2 c =
     let a = c .before .before .before .before .before .before .before .before .before .before .args in
@@ -66,7 +60,6 @@ returns-3 c =
     rw (first (c .before .before) .0, w .0, e)
 
 pub branch-fields-spec : {M : Type 1} → statement M
-branch-fields-spec =
-    tie.close
-    (tie.spec Inv-loop μ-loop (λ c κs. omega arith) (λ c. search needs) (λ c. search needs) returns loop-holds statement-fields-requires
-    (λ c. search needs) (λ c. search needs) returns-2 (λ c. omega arith) (λ c. omega arith) loop-again returns-3)
+branch-fields-spec = tie.close (tie.spec Inv-loop μ-loop (λ c κs. omega arith) (λ c. search needs) (λ c. search needs) returns
+    (λ c. (omega arith, walked-none _ _ (omega (arith, first c .1)))) (λ c κs. omega (arith, c .before .loop .inv .1 .here)) (λ c. search needs)
+    (λ c. search needs) returns-2 (λ c. omega arith) (λ c. omega arith) loop-again returns-3)

@@ -20,12 +20,6 @@ returns c =
     let a = c .before .before .before .before .args in
     first-bad (now (a .board)) (a .at) (a .p) (a .q) (sym (c .before .before .element .ensures) ∙ c .enum-told .given .1)
 
-element-requires-2 : tie.Need-element-requires-2
-element-requires-2 c κs =
-    let a = c .before .before .before .before .before .args in
-    let e = element-value (now (a .board)) (a .at) (a .p) (a .q) (first c) .1 in
-    omega arith
-
 returns-2 : tie.Need-returns-2
 returns-2 c =
     let a = c .before .before .before .before .before .before .before .before .args in
@@ -39,7 +33,6 @@ returns-3 c =
     (sym (c .before .before .before .element2 .ensures) ∙ c .before .next .given .1)
 
 pub pair-fields-spec : {M : Type 1} → statement M
-pair-fields-spec =
-    tie.close
-    (tie.spec (λ c κs. search needs) (λ c. search needs) (λ c. search needs) returns element-requires-2 (λ c. search needs) (λ c. search needs)
-    returns-2 returns-3)
+pair-fields-spec = tie.close (tie.spec (λ c κs. search needs) (λ c. search needs) (λ c. search needs) returns
+    (λ c κs. let a = c .before .before .before .before .before .args in let e = element-value (now (a .board)) (a .at) (a .p) (a .q) (first c) .1 in omega arith)
+    (λ c. search needs) (λ c. search needs) returns-2 returns-3)

@@ -14,14 +14,6 @@ Inv-loop board at count p q place₀ i₀ place i = (i ≤ count) × Walked (λ 
 abbrev μ-loop : tie.MeasureT-loop
 μ-loop board at count p q place₀ i₀ place i = count - i
 
-loop-holds : tie.Need-loop-holds Inv-loop μ-loop
-loop-holds c = (omega arith, walked-none _ _ (omega arith))
-
-pair-fields-requires : tie.Need-pair-fields-requires Inv-loop μ-loop
-pair-fields-requires c κs =
-    let a = c .before .before .before .args in
-    omega (arith, c .before .loop .inv .1 .here, c .loop-test .taken)
-
 returns : tie.Need-returns Inv-loop μ-loop
 returns c =
     let a = c .before .before .before .before .before .before .args in
@@ -46,7 +38,6 @@ returns-2 c =
     rw (w .0, w .1)
 
 pub pairs-fields-spec : {M : Type 1} → statement M
-pairs-fields-spec =
-    tie.close
-    (tie.spec Inv-loop μ-loop loop-holds pair-fields-requires (λ c. search needs) (λ c. search needs) returns (λ c. omega arith) (λ c. omega arith)
-    loop-again returns-2)
+pairs-fields-spec = tie.close (tie.spec Inv-loop μ-loop (λ c. (omega arith, walked-none _ _ (omega arith)))
+    (λ c κs. let a = c .before .before .before .args in omega (arith, c .before .loop .inv .1 .here, c .loop-test .taken)) (λ c. search needs)
+    (λ c. search needs) returns (λ c. omega arith) (λ c. omega arith) loop-again returns-2)

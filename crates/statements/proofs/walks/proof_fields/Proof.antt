@@ -17,14 +17,6 @@ Inv-loop board at branches statements p q place₀ i₀ place i =
 abbrev μ-loop : tie.MeasureT-loop
 μ-loop board at branches statements p q place₀ i₀ place i = branches - i
 
-loop-holds : tie.Need-loop-holds Inv-loop μ-loop
-loop-holds c = (omega arith, walked-none _ _ (omega arith))
-
-branch-fields-requires : tie.Need-branch-fields-requires Inv-loop μ-loop
-branch-fields-requires c κs =
-    let a = c .before .before .before .args in
-    omega (arith, c .before .loop .inv .1 .here, mul-le-mul-right (4 + 12 * a .statements) (c .loop-test .taken))
-
 returns : tie.Need-returns Inv-loop μ-loop
 unfolding proofFields
 returns c =
@@ -52,7 +44,6 @@ returns-2 c =
     rw (w .0, w .1)
 
 pub proof-fields-spec : {M : Type 1} → statement M
-proof-fields-spec =
-    tie.close
-    (tie.spec Inv-loop μ-loop loop-holds branch-fields-requires (λ c. search needs) (λ c. search needs) returns (λ c. omega arith) (λ c. omega arith)
-    loop-again returns-2)
+proof-fields-spec = tie.close (tie.spec Inv-loop μ-loop (λ c. (omega arith, walked-none _ _ (omega arith)))
+    (λ c κs. let a = c .before .before .before .args in omega (arith, c .before .loop .inv .1 .here, mul-le-mul-right (4 + 12 * a .statements) (c .loop-test .taken)))
+    (λ c. search needs) (λ c. search needs) returns (λ c. omega arith) (λ c. omega arith) loop-again returns-2)

@@ -39,7 +39,5 @@ returns-3 c =
     (sym (c .before .before .before .exponent .ensures) ∙ c .before .next .given .1)
 
 pub statement-fields-spec : {M : Type 1} → statement M
-statement-fields-spec =
-    tie.close
-    (tie.spec (λ c κs. search needs) (λ c. search needs) (λ c. search needs) returns exponent-requires (λ c. search needs) (λ c. search needs)
-    returns-2 returns-3)
+statement-fields-spec = tie.close (tie.spec (λ c κs. search needs) (λ c. search needs) (λ c. search needs) returns exponent-requires (λ c. search needs)
+    (λ c. search needs) returns-2 returns-3)

@@ -26,12 +26,6 @@ abbrev μ-loop : tie.MeasureT-loop
 one-bad : (draws : List ℕ) (needed q d : ℕ) → needed ≤ length draws → d < needed → good draws q d ≡ false → false ≡ (leb needed (length draws) && allBelow needed (good draws q))
 one-bad draws needed q d l h e = sym (rw (le-leb needed (length draws) l, all-fails needed d (good draws q) h e))
 
-returns : tie.Need-returns Inv-loop μ-loop
-returns c = let f = c .before .args in rw (lt-leb (f .needed) (length (now (f .draws))) (c .if1 .taken))
-
-loop-holds : tie.Need-loop-holds Inv-loop μ-loop
-loop-holds c = (omega arith, all-none _)
-
 returns-2 : tie.Need-returns-2 Inv-loop μ-loop
 returns-2 c =
     let f = c .before .before .before .before .before .args in
@@ -58,18 +52,5 @@ returns-4 c =
     sym (rw (le-leb (f .needed) (length (now (f .draws))) (c .before .before .if1 .left), all-end (f .needed) (l .d) (good (now (f .draws)) (f .q)) (l .inv .0) (omega arith) (l .inv .1)))
 
 pub draws-good-spec : {M : Type 1} → statement M
-draws-good-spec =
-    tie.close
-    (tie.spec
-    Inv-loop
-    μ-loop
-    returns
-    loop-holds
-    (λ c. search needs)
-    (λ c. search needs)
-    returns-2
-    returns-3
-    (λ c. search needs)
-    (λ c. search needs)
-    loop-again
-    returns-4)
+draws-good-spec = tie.close (tie.spec Inv-loop μ-loop (λ c. let f = c .before .args in rw (lt-leb (f .needed) (length (now (f .draws))) (c .if1 .taken)))
+    (λ c. (omega arith, all-none _)) (λ c. search needs) (λ c. search needs) returns-2 returns-3 (λ c. search needs) (λ c. search needs) loop-again returns-4)

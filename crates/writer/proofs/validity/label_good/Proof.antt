@@ -6,16 +6,6 @@ use borrow.Author.Needs.{needs}
 use Rattle.writer.proofs.validity.label_good.Statement.{statement}
 use Rattle.writer.proofs.validity.label_good.Tie as tie
 
-returns : tie.Need-returns
-returns c = rw (ne-eqb (length (now (c .before .before .args .label))) 32 (c .if1 .taken))
-
-returns-2 : tie.Need-returns-2
-returns-2 c = c .generators-good .ensures ∙ rw (eq-eqb (length (now (c .before .before .before .args .label))) 32 (c .before .if1 .left))
-
 pub label-good-spec : {M : Type 1} → statement M
-label-good-spec =
-    tie.close
-    (tie.spec
-    returns
-    (λ c κs. search needs)
-    returns-2)
+label-good-spec = tie.close (tie.spec (λ c. rw (ne-eqb (length (now (c .before .before .args .label))) 32 (c .if1 .taken))) (λ c κs. search needs)
+    (λ c. c .generators-good .ensures ∙ rw (eq-eqb (length (now (c .before .before .before .args .label))) 32 (c .before .if1 .left))))

@@ -100,10 +100,9 @@ returns-6 c draws =
     )
 
 pub up-to-rankings-spec : {M : Type 1} → statement M
-up-to-rankings-spec =
-    tie.close
-    (tie.spec (λ c κs. search needs) (λ c κs. search needs) returns (λ c κs. search needs) returns-2 (λ c κs. orders-positive _ _ _ _ (ordered c))
-    (λ c κs. group-positive (jobAt (start2 (c .before)) []) _ (c .group-of .ensures) (ordered (c .before))) returns-3
+up-to-rankings-spec = tie.close (tie.spec (λ c κs. search needs) (λ c κs. search needs) returns (λ c κs. search needs) returns-2
+    (λ c κs. orders-positive _ _ _ _ (ordered c)) (λ c κs. group-positive (jobAt (start2 (c .before)) []) _ (c .group-of .ensures) (ordered (c .before)))
+    returns-3
     (λ c. let j = start3 c .args .job in let w = sizes-bounds ranked (j .n) (j .k) (sized (c .before .before .before .before .before)) in omega (arith, w, at-most (j .k) (j .n) (w .3)))
     returns-4
     (λ c κs. let j = start3 (c .before) .args .job in let w = sizes-bounds ranked (j .n) (j .k) (sized (c .before .before .before .before .before .before)) in (w .1, w .3, omega (arith, c .if4 .left)))
