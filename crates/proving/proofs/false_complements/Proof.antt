@@ -40,6 +40,10 @@ pub false-complements-spec : {M : Type 1} → statement M
 false-complements-spec = tie.close (tie.spec Inv-loop μ-loop loop-holds (λ c κs. search needs)
     (λ c. let s = c .before .before .before .before .before in omega (arith, s .good, false-fits (s .args .q) (s .args .plan) (now (s .args .draws)) (s .pre) (c .before .before .before .loop .l) (omega arith) (c .before .if1 .taken), c .branch-draws .ensures))
     (λ c. let s = c .before .before .before .before .before .before in omega (arith, s .good, false-fits (s .args .q) (s .args .plan) (now (s .args .draws)) (s .pre) (c .before .before .before .before .loop .l) (omega arith) (c .before .before .if1 .taken), c .before .branch-draws .ensures))
-    (λ c. let s = c .before .before .before .before .before .before in let h : getD (now (s .args .draws)) (c .before .branch-draws .result) 0 < s .args .q = rw (c .before .branch-draws .ensures) (false-low (s .args .q) (s .args .plan) (now (s .args .draws)) (s .pre) (c .before .before .before .before .loop .l) (omega arith) (c .before .before .if1 .taken)) in omega arith)
+    (λ c.
+    let s = c .before .before .before .before .before .before in
+    let h : getD (now (s .args .draws)) (c .before .branch-draws .result) 0 < s .args .q =
+    rw (c .before .branch-draws .ensures) (false-low (s .args .q) (s .args .plan) (now (s .args .draws)) (s .pre) (c .before .before .before .before .loop .l) (omega arith) (c .before .before .if1 .taken)) in
+    omega arith)
     (λ c. search needs) (λ c. search needs) (λ c. search needs) (λ c. search needs) loop-again
     (λ c. let l = c .before .loop in let e : l .l ≡ c .before .before .before .args .plan .branches = omega arith in (l .inv .3 ∙ rw e, omega arith)))
