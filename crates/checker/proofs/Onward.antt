@@ -16,9 +16,9 @@ use Rattle.rules.proofs.Leaving.{leaves-in}
 use Rattle.count.specs.declared.Count.{Count}
 use Rattle.count.specs.State.{standingOf, Kept}
 use Rattle.count.proofs.Picks.{gone-is, listed-many}
-use Rattle.records.specs.declared.Head.{Head}
-use Rattle.records.specs.declared.header.HeaderRead.the-variants.{Board, Refused}
-use Rattle.records.specs.Heads.{headOf, HeaderKnown, HeaderReads}
+use Rattle.header.specs.declared.Head.{Head}
+use Rattle.header.specs.declared.HeaderRead.the-variants.{Board, Refused}
+use Rattle.header.specs.Heads.{headOf, HeaderKnown, HeaderReads}
 use Rattle.round.proofs.FirstFault.{positive}
 use Rattle.checker.specs.Models.{Narrower}
 

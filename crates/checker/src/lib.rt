@@ -1,7 +1,7 @@
 // The checker of a board: the rounds in order, and the verdict.
 use count::Count;
-use records::Head;
-use records::header::HeaderRead;
+use header::Head;
+use header::HeaderRead;
 use round::Round;
 use round::RoundOutcome;
 use round::RoundRead;
@@ -19,7 +19,7 @@ ghost use Rattle.rules.specs.Header.{ranked};
 ghost use Rattle.rules.specs.Check.{accepted, refused, checkFrom, checkModel, checkBoard};
 ghost use Rattle.rules.specs.Answers.{refusalNumber, verdictOf, orderOf};
 ghost use Rattle.count.specs.State.{standingOf, Kept};
-ghost use Rattle.records.specs.Heads.{headOf, HeaderKnown, HeaderReads};
+ghost use Rattle.header.specs.Heads.{headOf, HeaderKnown, HeaderReads};
 ghost use Rattle.round.specs.Rounds.{Begins};
 ghost use Rattle.round.specs.Outcomes.{Rounded};
 ghost use Rattle.checker.specs.Models.{Narrower};

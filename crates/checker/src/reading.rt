@@ -1,9 +1,8 @@
 // A lent board and its next unread place, together: what the header and the rounds are read with. The functions over it are few and leave the
 // work to others, on a plain slice and a place: their proofs follow the code by hand, step by step.
 use count::Count;
-use records::Head;
-use records::header;
-use records::header::HeaderRead;
+use header::Head;
+use header::HeaderRead;
 use round::RecordsRead;
 use round::Round;
 use round::RoundRead;
@@ -18,7 +17,7 @@ ghost use Rattle.rules.specs.Header.{ranked};
 ghost use Rattle.rules.specs.Check.{checkModel};
 ghost use Rattle.rules.specs.Answers.{verdictOf, orderOf};
 ghost use Rattle.count.specs.State.{Kept};
-ghost use Rattle.records.specs.Heads.{HeaderKnown, HeaderReads};
+ghost use Rattle.header.specs.Heads.{HeaderKnown, HeaderReads};
 ghost use Rattle.round.specs.Rounds.{Begins};
 ghost use Rattle.round.specs.Outcomes.{RecordsReads, Rounded};
 ghost use Rattle.checker.specs.Models.{Narrower};

@@ -1,7 +1,7 @@
 // The third demand on running code: what `check` and `write` answer is what the plain count says. Their own contracts are repeated.
 use jobs::Written;
 use rules::Checked;
-use writer::Job;
+use validity::Job;
 ghost use mathlib.Core.Path.{_≡_};
 ghost use lib.ListN.{length};
 ghost use Rattle.sha256.specs.Message.{sha256};
@@ -9,7 +9,7 @@ ghost use Rattle.rules.specs.Check.{checkBoard};
 ghost use Rattle.rules.specs.Answers.{verdictOf, orderOf};
 ghost use Rattle.jobs.specs.Write.{writeOutcome, writeOutput};
 ghost use Rattle.jobs.specs.Replies.{outcomeOf, orderWritten};
-ghost use Rattle.writer.specs.Jobs.{jobOf};
+ghost use Rattle.validity.specs.Jobs.{jobOf};
 ghost use Rattle.demand.specs.Demand.{AcceptedIsPlain, ValidIsWritten};
 
 // First half, of any byte string.

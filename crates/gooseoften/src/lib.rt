@@ -1,6 +1,6 @@
 // The box's library: check and write for programs in C, with numbers, slices and arrays of fixed length alone. include/gooseoften.h declares both.
 use group::Element;
-use writer::Job;
+use validity::Job;
 ghost use mathlib.Core.Path.{_≡_};
 ghost use lib.ListN.{length};
 ghost use Rattle.sha256.specs.Message.{sha256};

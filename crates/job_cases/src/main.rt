@@ -9,7 +9,7 @@ use group::Element;
 use jobs::Reply;
 use testing::input;
 use testing::print;
-use writer::Job;
+use validity::Job;
 ghost use mathlib.Core.Path.{_≡_};
 ghost use Prim.Native.Nat.{_≤_};
 ghost use lib.ListN.{length, take};

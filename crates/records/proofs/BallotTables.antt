@@ -17,9 +17,9 @@ use Rattle.rules.specs.Ballot.{pairsGood, ballotFields, ballotProofs, ballotFau
 use Rattle.rules.specs.Shift.{shiftFields, shiftHolds, shiftFault}
 use Rattle.statements.specs.Walks.{pairFields, branchFields}
 use Rattle.statements.proofs.Lines.{by-row, by-column-of, all-lines}
-use Rattle.records.specs.declared.Head.{Head}
-use Rattle.records.specs.Heads.{headOf}
-use Rattle.records.proofs.Framing.{FiveTests}
+use Rattle.header.specs.declared.Head.{Head}
+use Rattle.header.specs.Heads.{headOf}
+use Rattle.records.proofs.FiveTests.{FiveTests}
 use Rattle.records.specs.Parts.{ballotFieldsAt, proofAt, entryGood, lineGood, ballotProofsAt, shiftFieldsAt, shiftProofAt}
 
 -- proofs of one shape, one after another, are branches one after another

@@ -1,7 +1,3 @@
--- Laws that the proofs of `records`, and its users, cite.
-pub mod Framing
-pub mod HeaderTable
+-- The tests of the BA and SH records.
+pub mod FiveTests
 pub mod BallotTables
-pub mod Products
-pub mod SheetTable
-pub mod SheetSteps

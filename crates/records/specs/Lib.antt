@@ -1,5 +1,3 @@
--- What the code's values stand for in the rules, and the parts of a record's tests at the place where the record starts.
-pub mod Heads
-pub mod Tallies
-pub mod Faults
+-- The parts of the tests of a BA or SH record at the place where it starts, and what they tell.
+pub mod Passes
 pub mod Parts

@@ -1,21 +1,18 @@
--- The parts of a record's tests, as the code goes through them, at the place where the record starts.
+-- The parts of the tests of a BA or SH record, as the code goes through them, at the place where it starts.
 use Prim.Native.Nat.{ℕ, _+_, _*_}
 use mathlib.Core.List.{List}
 use mathlib.Core.Bool.{Bool, _&&_}
-use lib.Dec.{eqb, leb, ltb}
 use Rattle.numbers.specs.Below.{allBelow}
 use Rattle.sha256.specs.Message.{sha256}
-use Rattle.group.specs.Arithmetic.{powMod}
-use Rattle.group.specs.Elements.{Parameters, parametersOf}
-use Rattle.rules.specs.Group.{paired}
-use Rattle.rules.specs.Bytes.{number4, number2}
+use Rattle.group.specs.Elements.{parametersOf}
+use Rattle.rules.specs.Bytes.{number4}
 use Rattle.rules.specs.Claims.{matrixAt, entryClaim, rowClaim, columnClaim, shiftClaim}
 use Rattle.rules.specs.Proofs.{Statement, proofFields}
 use Rattle.rules.specs.Ballot.{holdsAt}
 use Rattle.statements.specs.Lines.{byLine}
 use Rattle.statements.specs.Walks.{pairsFields}
-use Rattle.records.specs.declared.Head.{Head}
-use Rattle.records.specs.Heads.{headOf}
+use Rattle.header.specs.declared.Head.{Head}
+use Rattle.header.specs.Heads.{headOf}
 
 -- the pairs of a BA or SH record, and the branches of its proofs
 abbrev pub fieldsAt : (s : List ℕ) (at pairs branches statements p q : ℕ) → Bool
@@ -52,11 +49,3 @@ abbrev pub shiftProofAt : (s : List ℕ) (h : Head) (before at rows a : ℕ) →
 shiftProofAt s h before at rows a =
     proofAt s h (at + 4 + 8 * (rows * h .n)) (rows + 1) (2 + rows * h .n)
     (λ l i. shiftClaim (parametersOf (h .setup .group)) (h .n) (matrixAt s (h .n) before) (matrixAt s (h .n) at) a l i)
-
--- ---- RT
-abbrev pub countGood : (s : List ℕ) (k q at i : ℕ) → Bool
-countGood s k q at i = leb (number2 s (at + 4 + 6 * i)) k && ltb (number4 s (at + 6 + 6 * i)) q
-
--- a column's products modulo p, with the count and the exponent that its sheet has for it
-abbrev pub columnTallies : Parameters → (b y count x : ℕ) → Bool
-columnTallies g b y count x = eqb b (paired g x count) && eqb y (powMod (g .p) (g .g1) x)

@@ -1,8 +1,7 @@
 // The BA record.
-use crate::Fault;
-use crate::Head;
 use crate::Passed;
-use crate::frames;
+use frames::Fault;
+use header::Head;
 use rules::Refusal;
 use statements::claims;
 use statements::claims::Claim;
@@ -14,8 +13,8 @@ ghost use Rattle.sha256.specs.Message.{sha256};
 ghost use Rattle.rules.specs.Records.{ballotLength};
 ghost use Rattle.rules.specs.Header.{ranked};
 ghost use Rattle.rules.specs.Ballot.{ballotFault};
-ghost use Rattle.records.specs.Heads.{headOf, HeaderKnown};
-ghost use Rattle.records.specs.Faults.{Passes};
+ghost use Rattle.header.specs.Heads.{headOf, HeaderKnown};
+ghost use Rattle.records.specs.Passes.{Passes};
 ghost use Rattle.records.specs.Parts.{entryGood, lineGood, ballotProofsAt};
 
 fn entries_good(board: &[u8], h: Head, at: usize) -> bool

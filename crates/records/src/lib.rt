@@ -1,7 +1,7 @@
-// The records of a board, each with its tests in the table's order: the frame (1, 2, 6), the fields (7, 9), the proofs and equations (8, 10, 11).
+// The BA and SH records, each with its tests in the table's order: the frame (1, 2, 6), the fields (7), the proofs (8).
+use header::Head;
 use rules::Refusal;
 use sha256::Hasher;
-use statements::Setup;
 use statements::claims::Claim;
 use statements::proof;
 use statements::proof::Bases;
@@ -16,33 +16,16 @@ ghost use Rattle.group.specs.Elements.{parametersOf};
 ghost use Rattle.rules.specs.Header.{ranked};
 ghost use Rattle.rules.specs.Ballot.{holdsAt};
 ghost use Rattle.statements.specs.Claims.{claimOf, Within};
-ghost use Rattle.records.specs.Heads.{headOf, HeaderKnown};
+ghost use Rattle.header.specs.Heads.{headOf, HeaderKnown};
 ghost use Rattle.records.specs.Parts.{fieldsAt};
 
 pub mod ballot;
-mod frames;
-pub mod header;
-pub mod sheet;
 pub mod shift;
-pub mod tally;
 
 // What the tests of a BA or SH record come to: the place after it, or the refusal.
 pub enum Passed {
     To(usize),
     Refused(Refusal),
-}
-
-// What some tests of a record find.
-pub enum Fault {
-    Sound,
-    Refused(Refusal),
-}
-
-// What is read from a sound HD record.
-pub struct Head {
-    pub n: usize,
-    pub k: usize,
-    pub setup: Setup,
 }
 
 // The fields of a BA or SH record at a place: its pairs, and the branches of its proofs, one after another.

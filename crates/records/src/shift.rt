@@ -1,8 +1,7 @@
 // The SH record.
-use crate::Fault;
-use crate::Head;
 use crate::Passed;
-use crate::frames;
+use frames::Fault;
+use header::Head;
 use rules::Refusal;
 use statements::claims;
 use statements::claims::Claim;
@@ -13,8 +12,8 @@ ghost use Rattle.sha256.specs.Message.{sha256};
 ghost use Rattle.rules.specs.Records.{shiftLength};
 ghost use Rattle.rules.specs.Header.{ranked};
 ghost use Rattle.rules.specs.Shift.{shiftFault};
-ghost use Rattle.records.specs.Heads.{headOf, HeaderKnown};
-ghost use Rattle.records.specs.Faults.{Passes};
+ghost use Rattle.header.specs.Heads.{headOf, HeaderKnown};
+ghost use Rattle.records.specs.Passes.{Passes};
 ghost use Rattle.records.specs.Parts.{shiftProofAt};
 
 // The proof, that the row with its 1 in column a is struck. The inverses of the matrix before are made once.

@@ -12,8 +12,8 @@ use Rattle.rules.specs.Count.{Standing, closes}
 use Rattle.rules.specs.Check.{place, recordNumber, recordsRead, roundsRead}
 use Rattle.rules.proofs.Leaving.{not-last}
 use Rattle.rules.proofs.Positions.{place-record, earlier-fits}
-use Rattle.records.specs.declared.Head.{Head}
-use Rattle.records.specs.Heads.{headOf, HeaderKnown}
+use Rattle.header.specs.declared.Head.{Head}
+use Rattle.header.specs.Heads.{headOf, HeaderKnown}
 use Rattle.round.specs.declared.Round.{Round}
 use Rattle.round.specs.Rounds.{firstRound, nextRound, Begins}
 

@@ -10,7 +10,7 @@ use Rattle.rules.specs.Ballot.{ballotFault}
 use Rattle.rules.specs.Shift.{shiftFault}
 use Rattle.rules.specs.Check.{place, recordFault}
 use Rattle.records.specs.declared.Passed.{Passed}
-use Rattle.records.specs.Faults.{Passes}
+use Rattle.records.specs.Passes.{Passes}
 
 module _ (s : List ℕ) (H : Header) (a k at : ℕ) (p : Passed) where
   abbrev Said : (m : ℕ) → Type 0

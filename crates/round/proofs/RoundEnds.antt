@@ -17,12 +17,12 @@ use Rattle.rules.specs.declared.Refusal.{Refusal}
 use Rattle.rules.specs.declared.Refusal.the-variants as R
 use Rattle.count.specs.declared.Count.{Count}
 use Rattle.count.specs.State.{standingOf}
-use Rattle.records.specs.declared.Head.{Head}
-use Rattle.records.specs.declared.sheet.Outcome.{Outcome}
-use Rattle.records.specs.declared.sheet.Outcome.the-variants as O
-use Rattle.records.specs.Heads.{headOf}
-use Rattle.records.specs.Faults.{Stepped, SheetReads}
-use Rattle.records.proofs.SheetTable.{sheet-fits}
+use Rattle.header.specs.declared.Head.{Head}
+use Rattle.sheets.specs.declared.Outcome.{Outcome}
+use Rattle.sheets.specs.declared.Outcome.the-variants as O
+use Rattle.header.specs.Heads.{headOf}
+use Rattle.sheets.specs.Sheets.{Stepped, SheetReads}
+use Rattle.sheets.proofs.SheetTable.{sheet-fits}
 use Rattle.round.specs.declared.RoundOutcome.the-variants.{Open, Closed, Refused}
 use Rattle.round.specs.Outcomes.{RoundComes}
 use Rattle.round.proofs.FirstFault.{positive}

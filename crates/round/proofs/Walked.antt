@@ -17,12 +17,12 @@ use Rattle.rules.specs.Answers.{refusalNumber}
 use Rattle.rules.specs.declared.Refusal.{Refusal}
 use Rattle.rules.proofs.Faults.{no-fault, fault-at}
 use Rattle.rules.proofs.Positions.{holds-pairs, number-is, no-row}
-use Rattle.records.specs.declared.Fault.the-variants.{Sound, Refused}
-use Rattle.records.specs.declared.Head.{Head}
-use Rattle.records.specs.declared.tally.Tally.{Tally}
-use Rattle.records.specs.Heads.{headOf, HeaderKnown}
-use Rattle.records.specs.Tallies.{Tallied}
-use Rattle.records.proofs.Products.{tallied-fewer}
+use Rattle.frames.specs.declared.Fault.the-variants.{Sound, Refused}
+use Rattle.header.specs.declared.Head.{Head}
+use Rattle.sheets.specs.declared.tally.Tally.{Tally}
+use Rattle.header.specs.Heads.{headOf, HeaderKnown}
+use Rattle.sheets.specs.Tallies.{Tallied}
+use Rattle.sheets.proofs.Products.{tallied-fewer}
 use Rattle.round.specs.declared.Round.{Round}
 use Rattle.round.specs.Rounds.{Begins}
 use Rattle.round.specs.Outcomes.{Searched}

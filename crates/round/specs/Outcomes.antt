@@ -12,12 +12,12 @@ use Rattle.rules.specs.Check.{Verdict, accepted, refused, position, place, reco
 use Rattle.rules.specs.Answers.{refusalNumber}
 use Rattle.count.specs.declared.Count.{Count}
 use Rattle.count.specs.State.{standingOf, resultOf, Kept}
-use Rattle.records.specs.declared.Fault.{Fault}
-use Rattle.records.specs.declared.Fault.the-variants as F
-use Rattle.records.specs.declared.Head.{Head}
-use Rattle.records.specs.declared.tally.Tally.{Tally}
-use Rattle.records.specs.Heads.{headOf}
-use Rattle.records.specs.Tallies.{Tallied}
+use Rattle.frames.specs.declared.Fault.{Fault}
+use Rattle.frames.specs.declared.Fault.the-variants as F
+use Rattle.header.specs.declared.Head.{Head}
+use Rattle.sheets.specs.declared.tally.Tally.{Tally}
+use Rattle.header.specs.Heads.{headOf}
+use Rattle.sheets.specs.Tallies.{Tallied}
 use Rattle.round.specs.declared.RecordsRead.{RecordsRead}
 use Rattle.round.specs.declared.RoundOutcome.{RoundOutcome}
 use Rattle.round.specs.declared.RoundOutcome.the-variants.{Open, Closed, Refused}

@@ -4,8 +4,8 @@ use mathlib.Core.Path.{_≡_}
 use mathlib.Core.List.{List}
 use lib.ListN.{length}
 use Rattle.rules.specs.Check.{place, recordNumber}
-use Rattle.records.specs.declared.Head.{Head}
-use Rattle.records.specs.Heads.{headOf}
+use Rattle.header.specs.declared.Head.{Head}
+use Rattle.header.specs.Heads.{headOf}
 use Rattle.round.specs.declared.Round.{Round}
 
 abbrev pub firstRound : Round

@@ -1,14 +1,13 @@
 // One round: its ballots' records one after another, then its sheet.
 use count::Count;
-use records::Fault;
-use records::Head;
+use frames::Fault;
+use header::Head;
 use records::Passed;
 use records::ballot;
-use records::sheet;
-use records::sheet::Outcome;
 use records::shift;
-use records::tally::Tally;
 use rules::Refusal;
+use sheets::Outcome;
+use sheets::tally::Tally;
 ghost use mathlib.Core.Path.{_≡_};
 ghost use Prim.Native.Nat.{ℕ, suc, _+_, _*_, _-_, _≤_, _<_};
 ghost use lib.ListN.{length};
@@ -17,8 +16,8 @@ ghost use Rattle.rules.specs.Records.{recordLength};
 ghost use Rattle.rules.specs.Header.{ranked};
 ghost use Rattle.rules.specs.Check.{place, recordFault};
 ghost use Rattle.count.specs.State.{Kept};
-ghost use Rattle.records.specs.Heads.{headOf, HeaderKnown};
-ghost use Rattle.records.specs.Faults.{Passes};
+ghost use Rattle.header.specs.Heads.{headOf, HeaderKnown};
+ghost use Rattle.records.specs.Passes.{Passes};
 ghost use Rattle.round.specs.Rounds.{firstRound, nextRound, Begins};
 ghost use Rattle.round.specs.Outcomes.{RecordsReads, Rounded};
 
@@ -177,7 +176,7 @@ pub fn end_round(
         return refused(why, count, at, number);
     }
     let tally = read.tally;
-    let step = sheet::read_sheet(board, h, count, tally, at);
+    let step = sheets::read_sheet(board, h, count, tally, at);
     let outcome = step.outcome;
     let handed = step.count;
     let next = step.next;

@@ -10,8 +10,8 @@ use borrow.Author.Tests.{le-ltb, ne-eqb}
 use Rattle.numbers.specs.Below.{allBelow}
 use Rattle.numbers.specs.Primes.{isPrime}
 use Rattle.numbers.proofs.Tests.{any-holds, any-fails}
-use Rattle.sha256.specs.Words.{ROTR, ¬w, Ch, Maj, Σ₀, Σ₁, σ₀, σ₁}
-use Rattle.sha256.specs.Block as Block
+use Rattle.compression.specs.Words.{ROTR, ¬w, Ch, Maj, Σ₀, Σ₁, σ₀, σ₁}
+use Rattle.compression.specs.Block as Block
 use Rattle.sha256.specs.Message as Message
 use Rattle.sha256.specs.Message.{sha256}
 use Rattle.group.specs.Arithmetic.{powMod}

@@ -1,3 +1,2 @@
--- The job of the rules that a call of write is given, and what the writer's steps come to.
-pub mod Jobs
+-- What the writer's steps come to.
 pub mod Steps

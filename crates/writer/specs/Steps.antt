@@ -6,29 +6,14 @@ use mathlib.Core.List.{List, _++_}
 use lib.ListN.{length}
 use Rattle.numbers.specs.Below.{concatBelow}
 use Rattle.sha256.specs.Message.{sha256}
-use Rattle.group.specs.Elements.{parametersOf}
-use Rattle.rules.specs.Answers.{refusalNumber}
-use Rattle.jobs.specs.Job.{Job, groupOf, plainResult, needed, boardLength}
+use Rattle.jobs.specs.Job.{Job, plainResult, needed, boardLength}
 use Rattle.jobs.specs.Board.{headerBytes}
-use Rattle.jobs.specs.Write.{jobRefused, writeOutcome, writeOutput, Passed}
 use Rattle.output.specs.Written.{written}
 use Rattle.count.specs.State.{resultOf, Kept}
 use Rattle.count.specs.declared.Ended.{Ended}
 use Rattle.plain.specs.declared.rounds.Measure.{Measure}
 use Rattle.boards.specs.Parts.{boardJob, headGroup, roundBytes}
 use Rattle.boards.specs.declared.Head.{Head}
-use Rattle.writer.specs.declared.validity.Tested.{Tested}
-use Rattle.writer.specs.declared.validity.Tested.the-variants.{Sound, Refused}
-
--- the job is refused with a number and which, and the output stays as it is
-pub record Stops (job : Job) (out : List ℕ) (number ranking : ℕ) : Type 0 where
-  pub outcome : writeOutcome sha256 job (length out) ≡ jobRefused number ranking
-  pub output : writeOutput sha256 job out ≡ out
-
--- what the tests up to the rankings tell: the job's group, or the refusal, whatever the output
-unfoldable pub JobTested : Job → Tested → Type 0
-JobTested job (Sound g) = Passed sha256 job × (parametersOf g ≡ groupOf sha256 job)
-JobTested job (Refused refusal k) = (out : List ℕ) → Stops job out (refusalNumber refusal) k
 
 -- the count and the measure of a job
 pub record Measured (job : Job) (e : Ended) (m : Measure) : Type 0 where

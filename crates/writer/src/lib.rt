@@ -1,14 +1,14 @@
 // The writer: a board made from rankings and draws.
-use crate::validity::Tested;
 use boards::Head;
 use boards::rounds;
 use count::Count;
 use count::Ended;
-use group::Element;
 use jobs::Reply;
 use jobs::Written;
 use rules::Refusal;
 use statements::Setup;
+use validity::Job;
+use validity::Tested;
 ghost use mathlib.Core.Path.{_≡_};
 ghost use Prim.Native.Nat.{_+_, _≤_};
 ghost use lib.ListN.{length, replicate};
@@ -20,21 +20,9 @@ ghost use Rattle.jobs.specs.Replies.{outcomeOf, orderWritten};
 ghost use Rattle.statements.specs.Values.{Ready};
 ghost use Rattle.count.specs.State.{listOf, Kept};
 ghost use Rattle.boards.specs.Parts.{boardJob, Writable, Sheeted};
-ghost use Rattle.writer.specs.Jobs.{jobOf};
+ghost use Rattle.validity.specs.Jobs.{jobOf};
 ghost use Rattle.writer.specs.Steps.{bytesOf, Put};
 ghost use Rattle.jobs.specs.Job.{roundAt};
-
-mod validity;
-
-// The numbers of a job: of processes and ballots, p, q, g0 and the counter.
-pub struct Job {
-    pub n: usize,
-    pub k: usize,
-    pub p: u32,
-    pub q: u32,
-    pub g0: Element,
-    pub counter: u8,
-}
 
 fn refused(refusal: Refusal, ranking: usize) -> Written
     ensures { λ r. ⌜ (outcomeOf r ≡ jobRefused (refusalNumber refusal) ranking) × (r .order ≡ replicate 8 0) ⌝ }

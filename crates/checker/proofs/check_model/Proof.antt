@@ -22,9 +22,9 @@ use Rattle.rules.proofs.Checked as Checked
 use Rattle.rules.proofs.Checked.Laws as Checked′
 use Rattle.rules.proofs.Model as Model
 use Rattle.rules.proofs.Model.Laws as Model′
-use Rattle.records.specs.Heads.{HeaderReads}
-use Rattle.records.proofs.header.HeaderRead as HeaderRead
-use Rattle.records.proofs.header.HeaderRead.Laws as HeaderRead′
+use Rattle.header.specs.Heads.{HeaderReads}
+use Rattle.header.proofs.HeaderRead as HeaderRead
+use Rattle.header.proofs.HeaderRead.Laws as HeaderRead′
 use Rattle.checker.specs.Models.{Narrower}
 use Rattle.checker.specs.declared.reading.Reading.{Reading}
 use Rattle.checker.proofs.reading.start as start

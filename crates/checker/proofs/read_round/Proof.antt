@@ -17,9 +17,9 @@ use Rattle.rules.specs.Header.{ranked}
 use Rattle.count.specs.State.{Kept}
 use Rattle.count.proofs.Count as Count
 use Rattle.count.proofs.Count.Laws as Count′
-use Rattle.records.specs.Heads.{HeaderKnown}
-use Rattle.records.proofs.Head as Head
-use Rattle.records.proofs.Head.Laws as Head′
+use Rattle.header.specs.Heads.{HeaderKnown}
+use Rattle.header.proofs.Head as Head
+use Rattle.header.proofs.Head.Laws as Head′
 use Rattle.round.specs.Rounds.{Begins}
 use Rattle.round.specs.Outcomes.{RecordsReads}
 use Rattle.round.proofs.RecordsRead as RecordsRead

@@ -11,7 +11,7 @@ use Rattle.rules.specs.Answers.{orderOf, withZeros}
 use Rattle.count.specs.State.{standingOf, Kept}
 use Rattle.count.specs.declared.Gone.{Gone}
 use Rattle.count.proofs.Picks.{sheets-many, same-gone}
-use Rattle.records.specs.Heads.{headOf}
+use Rattle.header.specs.Heads.{headOf}
 use Rattle.round.specs.declared.RoundOutcome.{RoundOutcome}
 use Rattle.round.specs.declared.RoundOutcome.the-variants.{Open, Closed}
 use Rattle.round.specs.Rounds.{Begins}

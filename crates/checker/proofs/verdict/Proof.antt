@@ -2,8 +2,8 @@ use denote.Ref.{now}
 use mathlib.Core.Path.{_∙_, ap}
 use borrow.Author.Needs.{needs}
 use Rattle.rules.specs.Answers.{orderOf}
-use Rattle.records.specs.declared.header.HeaderRead.the-variants.{Board}
-use Rattle.records.specs.Heads.{HeaderReads}
+use Rattle.header.specs.declared.HeaderRead.the-variants.{Board}
+use Rattle.header.specs.Heads.{HeaderReads}
 use Rattle.checker.proofs.Onward.{known-ranked, board-is, refused-is}
 use Rattle.checker.proofs.verdict.Statement.{statement}
 use Rattle.checker.proofs.verdict.Tie as tie

@@ -6,9 +6,9 @@ use native.Mathlib.Omega.{arith}
 use borrow.Author.Needs.{needs}
 use Rattle.rules.specs.Check.{place}
 use Rattle.rules.specs.Records.{sheetLength}
-use Rattle.records.specs.declared.Fault.{Fault}
-use Rattle.records.specs.declared.Fault.the-variants.{Sound}
-use Rattle.records.specs.Heads.{headOf}
+use Rattle.frames.specs.declared.Fault.{Fault}
+use Rattle.frames.specs.declared.Fault.the-variants.{Sound}
+use Rattle.header.specs.Heads.{headOf}
 use Rattle.round.specs.Outcomes.{Searched}
 use Rattle.round.proofs.Walked.{number-small}
 use Rattle.round.proofs.RoundEnds.{Stepping, stepping, by-record, by-sheet, by-end, by-rest, by-next}

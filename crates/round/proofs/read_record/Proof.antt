@@ -3,7 +3,7 @@ use Prim.Native.Nat.{suc, _+_, _-_}
 use mathlib.Core.Path.{_≡_}
 use native.Mathlib.Omega.{arith}
 use borrow.Author.Needs.{needs}
-use Rattle.records.specs.Heads.{headOf}
+use Rattle.header.specs.Heads.{headOf}
 use Rattle.round.proofs.RecordAt.{record-first, record-later}
 use Rattle.round.proofs.read_record.Statement.{statement}
 use Rattle.round.proofs.read_record.Tie as tie

@@ -6,8 +6,8 @@ use Rattle.sha256.specs.Message.{sha256}
 use Rattle.rules.specs.Records.{recordLength}
 use Rattle.rules.specs.Check.{recordFault}
 use Rattle.records.specs.declared.Passed.the-variants.{To}
-use Rattle.records.specs.Heads.{headOf}
-use Rattle.records.specs.Faults.{Passes}
+use Rattle.header.specs.Heads.{headOf}
+use Rattle.records.specs.Passes.{Passes}
 use Rattle.round.proofs.Beginnings.{earlier-at, earlier-small}
 use Rattle.round.proofs.Walked.{Walked, walked-none, number-small, row-fits, walked-more, searched-refused, searched-all}
 use Rattle.round.proofs.read_records.Statement.{statement}
@@ -56,7 +56,7 @@ with-row-requires c κs =
     let l = c .before .before .before .before in
     let s = start l in
     let w = l .before .loop .inv in (
-      s .pre .0 .ready .p-pos,
+      s .pre .0 .ready,
       s .pre .0 .high,
       row-fits _ _ (s .pre .0) _ _ (s .pre .1) w (l .loop-test .taken) (passed c .2),
       w .tallied .b-long,
@@ -95,6 +95,6 @@ returns-2 c =
 pub read-records-spec : {M : Type 1} → statement M
 read-records-spec =
     tie.close
-    (tie.spec Inv-loop μ-loop (λ c κs. (c .before .pre .0 .high, omega (arith, c .before .pre .1 .early))) (λ c κs. c .before .before .pre .0 .ready .p-pos) loop-holds
+    (tie.spec Inv-loop μ-loop (λ c κs. (c .before .pre .0 .high, omega (arith, c .before .pre .1 .early))) (λ c κs. c .before .before .pre .0 .ready) loop-holds
     read-record-requires (λ c. search needs) returns (λ c. search needs) with-row-requires add-before add-number (λ c. omega arith) (λ c. omega arith)
     loop-again returns-2)

@@ -10,10 +10,12 @@ use Rattle.jobs.specs.Job as J
 use Rattle.jobs.specs.Job.{groupOf}
 use Rattle.jobs.specs.Write.{drawsGood, Passed, Valid}
 use Rattle.jobs.proofs.FineJob.{fine}
-use Rattle.writer.specs.Jobs.{jobOf}
-use Rattle.writer.specs.Steps.{JobTested, Measured, Put}
-use Rattle.writer.specs.declared.validity.Tested.{Tested}
-use Rattle.writer.proofs.Outcomes.{group-positive, measurable, measured, draws-are, stops-draws, stops-room, refuses}
+use Rattle.validity.specs.Jobs.{jobOf}
+use Rattle.validity.specs.Tests.{JobTested}
+use Rattle.validity.specs.declared.Tested.{Tested}
+use Rattle.validity.proofs.Outcomes.{group-positive}
+use Rattle.writer.specs.Steps.{Measured, Put}
+use Rattle.writer.proofs.Outcomes.{measurable, measured, draws-are, stops-draws, stops-room, refuses}
 use Rattle.writer.proofs.Boards.{bytesFor, can, sheeted, room, writes}
 use borrow.Author.Needs.{needs}
 use Rattle.writer.proofs.write.Statement.{statement}

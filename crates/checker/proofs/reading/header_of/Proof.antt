@@ -1,8 +1,8 @@
 use mathlib.Core.Path.{refl}
 use mathlib.Core.List.{[], _∷_}
 use base.Logic.{id⊢}
-use Rattle.records.proofs.header.HeaderRead as HeaderRead
-use Rattle.records.proofs.header.HeaderRead.Laws as HeaderRead′
+use Rattle.header.proofs.HeaderRead as HeaderRead
+use Rattle.header.proofs.HeaderRead.Laws as HeaderRead′
 use Rattle.rules.proofs.Model as Model
 use Rattle.rules.proofs.Model.Laws as Model′
 use Rattle.checker.proofs.reading.header_at as callee

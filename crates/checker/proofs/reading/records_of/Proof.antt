@@ -1,8 +1,8 @@
 use mathlib.Core.Path.{refl}
 use mathlib.Core.List.{[], _∷_}
 use base.Logic.{id⊢}
-use Rattle.records.proofs.Head as Head
-use Rattle.records.proofs.Head.Laws as Head′
+use Rattle.header.proofs.Head as Head
+use Rattle.header.proofs.Head.Laws as Head′
 use Rattle.round.proofs.RecordsRead as RecordsRead
 use Rattle.round.proofs.RecordsRead.Laws as RecordsRead′
 use Rattle.round.proofs.Round as Round

@@ -3,8 +3,8 @@ use mathlib.Core.List.{[], _∷_}
 use base.Logic.{id⊢}
 use Rattle.count.proofs.Count as Count
 use Rattle.count.proofs.Count.Laws as Count′
-use Rattle.records.proofs.Head as Head
-use Rattle.records.proofs.Head.Laws as Head′
+use Rattle.header.proofs.Head as Head
+use Rattle.header.proofs.Head.Laws as Head′
 use Rattle.round.proofs.RecordsRead as RecordsRead
 use Rattle.round.proofs.RecordsRead.Laws as RecordsRead′
 use Rattle.round.proofs.Round as Round

@@ -6,9 +6,9 @@ use borrow.Author.Needs.{needs}
 use borrow.Author.Tests.{not-true, not-false}
 use Rattle.rules.specs.Bytes.{number2}
 use Rattle.rules.specs.Records.{SH, shiftLength}
-use Rattle.records.specs.declared.Fault.the-variants.{Sound}
-use Rattle.records.specs.Faults.{Framed}
-use Rattle.records.proofs.Framing.{wrong-frame, wrong-field, wrong-proof, all-sound}
+use Rattle.frames.specs.declared.Fault.the-variants.{Sound}
+use Rattle.frames.specs.Framed.{Framed}
+use Rattle.records.proofs.FiveTests.{wrong-frame, wrong-field, wrong-proof, all-sound}
 use Rattle.records.proofs.BallotTables.{shift-table}
 use Rattle.records.proofs.shift.read_shift.Statement.{statement}
 use Rattle.records.proofs.shift.read_shift.Tie as tie

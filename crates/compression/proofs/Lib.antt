@@ -1,0 +1,2 @@
+-- Laws of the schedule and the rounds.
+pub mod Laws

@@ -1,0 +1,2 @@
+-- Laws of what the tests of a frame tell.
+pub mod Framing

@@ -1,0 +1,2 @@
+-- What the tests of a frame tell.
+pub mod Framed

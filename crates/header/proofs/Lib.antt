@@ -1,0 +1,2 @@
+-- The tests of the HD record.
+pub mod HeaderTable

@@ -1,0 +1,2 @@
+-- The code's header as the rules'.
+pub mod Heads

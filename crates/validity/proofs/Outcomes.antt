@@ -1,0 +1,101 @@
+-- The tests of a job in turn, up to the rankings, and the refusal that each names.
+use Prim.Native.Nat.{ℕ, zero, suc, _*_, _<_}
+use mathlib.Core.Path.{_≡_, refl, sym, _∙_}
+use mathlib.Core.Bool.{Bool, true, false, _&&_}
+use mathlib.Core.List.{List}
+use native.Mathlib.Omega.{arith}
+use borrow.Author.Tests.{eq-eqb, ne-eqb, eqb-true, eqb-false}
+use lib.Dec.{eqb}
+use lib.ListN.{length}
+use Rattle.numbers.specs.Below.{allBelow}
+use Rattle.numbers.proofs.Tests.{by-cases}
+use Rattle.sha256.specs.Message.{sha256}
+use Rattle.group.specs.Elements.{Parameters}
+use Rattle.rules.specs.Group.{orders, generators}
+use Rattle.rules.specs.Header.{ranked, sizes}
+use Rattle.rules.specs.Count.{isRanking}
+use Rattle.rules.specs.Tests.{firstFault}
+use Rattle.jobs.specs.Job.{Job, groupOf, rankingOf}
+use Rattle.jobs.specs.Write.{labelGood, rankingsGood, jobFault, firstBad, badRanking, writeOutcome, writeOutput}
+use Rattle.parameters.proofs.Rules.{orders-positive}
+use Rattle.validity.specs.Tests.{Stops}
+
+-- the tests in the code's words
+module _ (job : Job) where
+  pub group-positive : (g : Parameters) → g ≡ groupOf sha256 job → orders (job .n) (job .K) (job .p) (job .q) ≡ true → (0 < g .p) × (0 < g .q)
+  group-positive g e o = let w = orders-positive (job .n) (job .K) (job .p) (job .q) o in rw e w
+
+  pub label-is : (b : Bool) (g : Parameters) → b ≡ (eqb (length (job .label)) 32 && generators sha256 (job .label) (job .counter) g) → g ≡ groupOf sha256 job → b ≡ labelGood sha256 job
+  label-is b g h e = h ∙ rw e
+
+  abbrev allRanked : ℕ → Bool
+  allRanked k = allBelow k (λ k. isRanking (job .n) (rankingOf job k))
+
+  all-ranked : (k : ℕ) → firstBad job k ≡ 0 → allRanked k ≡ true
+  unfolding firstBad allBelow
+  all-ranked zero h = refl
+  all-ranked (suc k) h =
+      by-cases (eqb (firstBad job k) 0)
+      (λ e.
+      by-cases (isRanking (job .n) (rankingOf job k))
+      (λ r. rw (all-ranked k (eqb-true (firstBad job k) 0 e), r))
+      (λ r. absurd (omega (arith, rw (e, r) at h))))
+      (λ e. absurd (eqb-false (firstBad job k) 0 e (rw e at h)))
+
+  not-ranked : (k : ℕ) → 0 < firstBad job k → allRanked k ≡ false
+  unfolding firstBad allBelow
+  not-ranked zero h = absurd (omega arith)
+  not-ranked (suc k) h =
+      by-cases (eqb (firstBad job k) 0)
+      (λ e.
+      by-cases (isRanking (job .n) (rankingOf job k))
+      (λ r. absurd (omega (arith, rw (e, r) at h)))
+      (λ r. rw r (and-false (allRanked k))))
+      (λ e. rw (not-ranked k (omega (arith, rw e at h))))
+    where
+      and-false : (a : Bool) → (a && false) ≡ false
+      and-false true = refl
+      and-false false = refl
+
+  pub well-ranked : length (job .rankings) ≡ job .K * job .n → firstBad job (job .K) ≡ 0 → rankingsGood job ≡ true
+  well-ranked l b = rw (eq-eqb (length (job .rankings)) (job .K * job .n) l) (all-ranked (job .K) b)
+
+-- the first test that fails names the refusal
+module _ (job : Job) (out : List ℕ) where
+  stops : (v k : ℕ) → jobFault sha256 job (length out) ≡ suc v → badRanking job (suc v) ≡ k → Stops job out (suc v) k
+  unfolding writeOutcome writeOutput
+  stops v k e w =
+      let n : eqb (suc v) 0 ≡ false = ne-eqb (suc v) 0 (λ z. omega arith) in
+      record { outcome = rw (e, n, w); output = rw (e, n) }
+
+  -- only the rankings' refusal names one of them
+  pub plainly : (v : ℕ) → (suc v ≡ 13 → ⊥) → jobFault sha256 job (length out) ≡ suc v → Stops job out (suc v) 0
+  unfolding badRanking
+  plainly v h e = stops v 0 e (rw (ne-eqb (suc v) 13 h))
+
+  pub stops-sizes : sizes ranked (job .n) (job .K) ≡ false → Stops job out 3 0
+  unfolding jobFault firstFault
+  stops-sizes a = plainly 2 (λ e. omega arith) (rw a)
+
+  module _ (a : sizes ranked (job .n) (job .K) ≡ true) where
+    pub stops-orders : orders (job .n) (job .K) (job .p) (job .q) ≡ false → Stops job out 4 0
+    unfolding jobFault firstFault
+    stops-orders b = plainly 3 (λ e. omega arith) (rw (a, b))
+
+    module _ (b : orders (job .n) (job .K) (job .p) (job .q) ≡ true) where
+      pub stops-label : labelGood sha256 job ≡ false → Stops job out 5 0
+      unfolding jobFault firstFault
+      stops-label c = plainly 4 (λ e. omega arith) (rw (a, b, c))
+
+      module _ (c : labelGood sha256 job ≡ true) where
+        stops-rankings : rankingsGood job ≡ false → (k : ℕ) → badRanking job 13 ≡ k → Stops job out 13 k
+        unfolding jobFault firstFault
+        stops-rankings d k w = stops 12 k (rw (a, b, c, d)) w
+
+        pub stops-length : (length (job .rankings) ≡ job .K * job .n → ⊥) → Stops job out 13 0
+        unfolding badRanking
+        stops-length h = let t = ne-eqb (length (job .rankings)) (job .K * job .n) h in stops-rankings (rw t) 0 (rw t)
+
+        pub stops-ranking : length (job .rankings) ≡ job .K * job .n → (k : ℕ) → k ≡ firstBad job (job .K) → 0 < k → Stops job out 13 k
+        unfolding badRanking
+        stops-ranking h k e p = let t = eq-eqb (length (job .rankings)) (job .K * job .n) h in stops-rankings (rw t (not-ranked job (job .K) (omega arith))) k (rw t (sym e))

@@ -1,9 +1,0 @@
--- The job of the rules that a call of write is given.
-use Prim.Native.Nat.{ℕ}
-use mathlib.Core.List.{List}
-use Rattle.jobs.specs.Job as J
-use Rattle.writer.specs.declared.Job.{Job}
-
-abbrev pub jobOf : Job → (label rankings draws : List ℕ) → J.Job
-jobOf j label rankings draws =
-    record { n = j .n; K = j .k; p = j .p; q = j .q; g0 = j .g0 .0; counter = j .counter; label = label; rankings = rankings; draws = draws }
