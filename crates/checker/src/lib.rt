@@ -84,11 +84,11 @@ fn rounds(board: &[u8], at: usize, h: Head) -> Checked
                 let ended = read.count;
                 return accepted(ended, n, winner);
             }
-            RoundOutcome::Open(out) => {
-                let next = read.count;
-                count = next;
-                round = round.next(read.number, out, place);
-                place = read.next;
+            RoundOutcome::Open(out, next, number) => {
+                let handed = read.count;
+                count = handed;
+                round = round.next(number, out, place);
+                place = next;
             }
         }
     }

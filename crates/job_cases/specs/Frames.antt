@@ -1,10 +1,25 @@
 -- What is known of a frame that was read.
-use Prim.Native.Nat.{ℕ, _+_, _≤_}
+use Prim.Native.Nat.{ℕ, _+_, _%_, _≤_}
 use mathlib.Core.List.{List}
 use lib.ListN.{length}
+use Rattle.rules.specs.Bytes.{number4}
+use Rattle.job_cases.specs.declared.frame.Numbers.{Numbers}
 use Rattle.job_cases.specs.declared.frame.Ends.{Ends}
 use Rattle.job_cases.specs.declared.frame.Frame.{Frame}
 use Rattle.job_cases.specs.declared.frame.Frame.the-variants as F
+
+-- the numbers of a frame, 4 bytes each, behind its name
+abbrev pub numbersAt : (s : List ℕ) (at : ℕ) → Numbers
+numbersAt s at =
+    record {
+      n = number4 s at;
+      k = number4 s (at + 4);
+      p = number4 s (at + 8);
+      q = number4 s (at + 12);
+      g0 = number4 s (at + 16);
+      counter = number4 s (at + 20) % 256;
+      length = number4 s (at + 24);
+    }
 
 -- the pieces of the frame at a place stand one behind the other, within the input
 pub record Within (s : List ℕ) (at : ℕ) (e : Ends) : Type 0 where

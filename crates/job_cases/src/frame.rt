@@ -1,9 +1,10 @@
 // A job's frame: its name, 7 numbers of 4 bytes, its label, its rankings and its draws.
 use testing::input;
 use testing::input::Piece;
+ghost use mathlib.Core.Path.{_≡_};
 ghost use Prim.Native.Nat.{_+_, _≤_};
 ghost use lib.ListN.{length};
-ghost use Rattle.job_cases.specs.Frames.{FrameReads};
+ghost use Rattle.job_cases.specs.Frames.{FrameReads, numbersAt};
 
 // Where the pieces of a frame end.
 pub struct Ends {
@@ -29,8 +30,10 @@ pub struct Numbers {
     pub length: usize,
 }
 
+// The numbers of the frame whose name ends at a place.
 pub fn numbers_at(s: &[u8], at: usize) -> Numbers
     requires { ⌜ at + 28 ≤ length (now s) ⌝ }
+    ensures { λ r. ⌜ r ≡ numbersAt (now (s .entry)) at ⌝ }
 {
     Numbers {
         n: numbers::wide32(fields::number4(s, at)),

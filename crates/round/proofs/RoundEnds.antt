@@ -28,12 +28,12 @@ use Rattle.round.specs.Outcomes.{RoundComes}
 use Rattle.round.proofs.FirstFault.{positive}
 
 -- from what the ballots' records and the sheet come to
-module _ (s : List ℕ) (h : Head) (c : Count) (m a at number : ℕ) where
+module _ (s : List ℕ) (h : Head) (c : Count) (m a : ℕ) where
   abbrev H : Header
   H = headOf s h
 
   pub by-record : (w : Refusal) (k shown : ℕ) → faultBelow (h .k) (recordFault sha256 s H a m) ≡ some (k, refusalNumber w) → shown ≡ recordNumber s H m k →
-      RoundComes s h c m a (Refused w shown) c at number
+      RoundComes s h c m a (Refused w shown) c
   unfolding RoundComes roundVerdict
   by-record w k shown e p = (λ after. rw (e, roundVerdict, p), refl)
 
@@ -50,21 +50,21 @@ module _ (s : List ℕ) (h : Head) (c : Count) (m a at number : ℕ) where
       subst (λ (at : ℕ). P at m) e (subst (λ (round : ℕ). P there round) x t)
 
   module _ (e : faultBelow (h .k) (recordFault sha256 s H a m) ≡ none) (handed : Count) where
-    pub by-sheet : (w : Refusal) (shown : ℕ) → Stepping (O.Refused w) handed → shown ≡ recordNumber s H m (h .k) → RoundComes s h c m a (Refused w shown) handed at number
+    pub by-sheet : (w : Refusal) (shown : ℕ) → Stepping (O.Refused w) handed → shown ≡ recordNumber s H m (h .k) → RoundComes s h c m a (Refused w shown) handed
     unfolding RoundComes Stepped roundVerdict
     by-sheet w shown t p = (λ after. rw (e, roundVerdict, t .0, ne-eqb (refusalNumber w) 0 (λ z. omega (arith, positive w)), p), t .1)
 
     -- the sheet closes the board, and ends at a place
     module _ (x there : ℕ) (next : there ≡ place s H m (h .k) + sheetLength (h .n)) (t : Stepping (O.Closed x) handed) where
-      pub by-end : length s ≡ there → RoundComes s h c m a (Closed x) handed at number
+      pub by-end : length s ≡ there → RoundComes s h c m a (Closed x) handed
       unfolding RoundComes Stepped roundsRead roundVerdict
       by-end l = (λ after. rw (e, roundVerdict, t .0, t .1, eq-eqb _ _ (l ∙ next), t .2), t .3, t .4, t .5)
 
-      pub by-rest : (shown : ℕ) → (length s ≡ there → ⊥) → shown ≡ recordNumber s H m (h .k) + 1 → RoundComes s h c m a (Refused R.Remain shown) c at number
+      pub by-rest : (shown : ℕ) → (length s ≡ there → ⊥) → shown ≡ recordNumber s H m (h .k) + 1 → RoundComes s h c m a (Refused R.Remain shown) c
       unfolding RoundComes Stepped roundsRead roundVerdict
       by-rest shown l p = (λ after. rw (e, roundVerdict, t .0, t .1, ne-eqb (length s) (place s H m (h .k) + sheetLength (h .n)) (λ z. l (z ∙ sym next)), p), refl)
 
-    pub by-next : (x : ℕ) → at ≡ place s H m (h .k) + sheetLength (h .n) → Stepping (O.Open x) handed → number ≡ recordNumber s H m (h .k) + 1 →
-        RoundComes s h c m a (Open x) handed at number
+    pub by-next : (x at number : ℕ) → at ≡ place s H m (h .k) + sheetLength (h .n) → Stepping (O.Open x) handed → number ≡ recordNumber s H m (h .k) + 1 →
+        RoundComes s h c m a (Open x at number) handed
     unfolding RoundComes Stepped recordsRead roundsRead roundVerdict
-    by-next x next t p = (λ after. rw (e, roundVerdict, t .0, t .1), t .1, next, rw next (sheet-fits s h _ _ _ _ (t .0)), p, t .2, t .3, t .4, t .5, t .6)
+    by-next x at number next t p = (λ after. rw (e, roundVerdict, t .0, t .1), t .1, next, rw next (sheet-fits s h _ _ _ _ (t .0)), p, t .2, t .3, t .4, t .5, t .6)

@@ -86,7 +86,7 @@ module _ (s : List ℕ) (h : Head) (known : HeaderKnown ranked s h) (r : Round) 
 
       pub searched-refused : (why : Refusal) → recordFault sha256 s (headOf s h) (r .a) (r .m) k ≡ refusalNumber why → Searched s h (r .a) (r .m) (Refused why) place number t
       unfolding Searched
-      searched-refused why f = (k, l, rw (← f) (fault-at (h .k) _ k l (w .sound) (λ z. omega (arith, positive why))), w .numbered)
+      searched-refused why f = (k, l, rw (← f) (fault-at (h .k) _ k l (w .sound) (λ z. omega (arith, positive why))), w .here, w .fits, w .numbered, w .tallied)
 
     pub searched-all : k ≡ h .k → Searched s h (r .a) (r .m) Sound place number t
     unfolding Searched

@@ -24,34 +24,36 @@ use Rattle.round.specs.declared.RoundOutcome.the-variants.{Open, Closed,
 use Rattle.round.specs.declared.RoundRead.{RoundRead}
 
 module _ (s : List ℕ) (h : Head) (a m : ℕ) where
-  -- the ballots' records: none has a fault, and the sheet is next; or the first that has one, its fault and its number
+  -- the ballots' records: none has a fault, and the sheet is next; or the first that has one, its fault, its place and its number. The products are
+  -- those of the records before it.
   unfoldable pub Searched : Fault → (at number : ℕ) → Tally → Type 0
   Searched F.Sound at number t =
       (faultBelow (h .k) (recordFault sha256 s (headOf s h) a m) ≡ none) × (at ≡ place s (headOf s h) m (h .k)) × (at ≤ length s)
       × (number ≡ recordNumber s (headOf s h) m (h .k)) × Tallied (h .setup .group .p) (h .n) t (position s (headOf s h) m (h .k) .tally)
   Searched (F.Refused w) at number t =
       (k : ℕ) × (k < h .k) × (faultBelow (h .k) (recordFault sha256 s (headOf s h) a m) ≡ some (k, refusalNumber w))
-      × (number ≡ recordNumber s (headOf s h) m k)
+      × (at ≡ place s (headOf s h) m k) × (at ≤ length s)
+      × (number ≡ recordNumber s (headOf s h) m k) × Tallied (h .setup .group .p) (h .n) t (position s (headOf s h) m k .tally)
 
   abbrev pub RecordsReads : RecordsRead → Type 0
   RecordsReads r = Searched (r .fault) (r .next) (r .number) (r .tally)
 
 -- the round: whatever comes after it, who goes out, the next standing count and where the next round begins; or its own verdict, and the count
 -- ended or as it was
-unfoldable pub RoundComes : (s : List ℕ) → Head → (before : Count) (m a : ℕ) → RoundOutcome → (handed : Count) (at number : ℕ) → Type 0
-RoundComes s h before m a (Open out) handed at number =
+unfoldable pub RoundComes : (s : List ℕ) → Head → (before : Count) (m a : ℕ) → RoundOutcome → (handed : Count) → Type 0
+RoundComes s h before m a (Open out at number) handed =
     ((after : Verdict) → roundVerdict sha256 s (headOf s h) (standingOf (h .n) before) m a after ≡ after)
     × (closes (h .n) (standingOf (h .n) before) (counts s (headOf s h) m) (h .k) ≡ false)
     × (at ≡ place s (headOf s h) (suc m) 0) × (at ≤ length s) × (number ≡ recordNumber s (headOf s h) (suc m) 0)
     × (out ≡ leaves (h .n) (standingOf (h .n) before) (counts s (headOf s h) m)) × (out ≤ h .n)
     × (handed .gone .outs ≡ before .gone .outs + 1) × Kept handed
     × (standingOf (h .n) handed ≡ next (h .n) (standingOf (h .n) before) (counts s (headOf s h) m))
-RoundComes s h before m a (Closed winner) handed at number =
+RoundComes s h before m a (Closed winner) handed =
     ((after : Verdict) → roundVerdict sha256 s (headOf s h) (standingOf (h .n) before) m a after ≡ accepted (m + 1) (standingOf (h .n) before .gone) winner)
     × (handed .gone ≡ before .gone) × Kept handed
     × (resultOf (h .n) (record { count = handed; winner = winner }) ≡ ended (h .n) (standingOf (h .n) before) (counts s (headOf s h) m))
-RoundComes s h before m a (Refused w refusedNumber) handed at number =
-    ((after : Verdict) → roundVerdict sha256 s (headOf s h) (standingOf (h .n) before) m a after ≡ refused (refusalNumber w) refusedNumber) × (handed ≡ before)
+RoundComes s h before m a (Refused w number) handed =
+    ((after : Verdict) → roundVerdict sha256 s (headOf s h) (standingOf (h .n) before) m a after ≡ refused (refusalNumber w) number) × (handed ≡ before)
 
 abbrev pub Rounded : (s : List ℕ) → Head → (before : Count) (m a : ℕ) → RoundRead → Type 0
-Rounded s h before m a r = RoundComes s h before m a (r .outcome) (r .count) (r .next) (r .number)
+Rounded s h before m a r = RoundComes s h before m a (r .outcome) (r .count)

@@ -65,20 +65,19 @@ pub struct RecordsRead {
     pub tally: Tally,
 }
 
-// What a round comes to: the process that goes out, the winner, or the refusal and the record's number.
+// What a round comes to: the process that goes out, and the place and the number of the record after the round; the winner; or the refusal and
+// the record's number.
 pub enum RoundOutcome {
-    Open(usize),
+    Open(usize, usize, usize),
     Closed(usize),
     Refused(Refusal, usize),
 }
 
-// It, the standing count that the round's sheet hands back (the next, or the one before, with the sheet kept where it closes the board), and
-// the place and the number of the record after the round.
+// It, and the standing count that the round's sheet hands back: the next; the one before, with the sheet kept, where it closes the board; or the
+// one before.
 pub struct RoundRead {
     pub outcome: RoundOutcome,
     pub count: Count,
-    pub next: usize,
-    pub number: usize,
 }
 
 // Ballot k's record of the round, at its place; that of the round before stands at before.
@@ -146,14 +145,12 @@ pub fn read_records(board: &[u8], at: usize, h: Head, round: Round) -> RecordsRe
     }
 }
 
-fn refused(why: Refusal, count: Count, next: usize, number: usize) -> RoundRead
+fn refused(why: Refusal, count: Count, number: usize) -> RoundRead
     ensures { λ r. ⌜ (r .outcome ≡ RoundOutcome.Refused why number) × (r .count ≡ count) ⌝ }
 {
     RoundRead {
         outcome: RoundOutcome::Refused(why, number),
         count,
-        next,
-        number,
     }
 }
 
@@ -173,7 +170,7 @@ pub fn end_round(
     let number = read.number;
     let fault = read.fault;
     if let Fault::Refused(why) = fault {
-        return refused(why, count, at, number);
+        return refused(why, count, number);
     }
     let tally = read.tally;
     let step = sheets::read_sheet(board, h, count, tally, at);
@@ -181,23 +178,19 @@ pub fn end_round(
     let handed = step.count;
     let next = step.next;
     match outcome {
-        Outcome::Refused(why) => refused(why, handed, next, number),
+        Outcome::Refused(why) => refused(why, handed, number),
         Outcome::Closed(winner) => {
             if board.len() != next {
-                return refused(Refusal::Remain, count, next, number + 1);
+                return refused(Refusal::Remain, count, number + 1);
             }
             RoundRead {
                 outcome: RoundOutcome::Closed(winner),
                 count: handed,
-                next,
-                number: number + 1,
             }
         }
         Outcome::Open(out) => RoundRead {
-            outcome: RoundOutcome::Open(out),
+            outcome: RoundOutcome::Open(out, next, number + 1),
             count: handed,
-            next,
-            number: number + 1,
         },
     }
 }

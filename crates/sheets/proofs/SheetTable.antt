@@ -35,13 +35,13 @@ use Rattle.sheets.specs.Tallies.{elementOf, Tallied}
 use Rattle.frames.specs.Framed.{Framed}
 use Rattle.sheets.specs.Sheets.{Counted, exponentOf, countGood, columnTallies}
 
--- ---- a column's equations, one after the other
+-- ---- a column's equations: that of b first, then that of Y
 module _ (g : Parameters) (b y count x due : ℕ) (e : due ≡ paired g x count) where
-  pub first-holds-next : b ≡ due → (z : ℕ) → z ≡ powMod (g .p) (g .g1) x → eqb y z ≡ columnTallies g b y count x
-  first-holds-next d z w = rw (← e, eq-eqb b due d, w)
+  pub b-holds : b ≡ due → (z : ℕ) → z ≡ powMod (g .p) (g .g1) x → eqb y z ≡ columnTallies g b y count x
+  b-holds d z w = rw (← e, eq-eqb b due d, w)
 
-  pub first-fails : (b ≡ due → ⊥) → false ≡ columnTallies g b y count x
-  first-fails d = rw (← e, ne-eqb b due d)
+  pub b-fails : (b ≡ due → ⊥) → false ≡ columnTallies g b y count x
+  b-fails d = rw (← e, ne-eqb b due d)
 
 module _ (s : List ℕ) (h : Head) (at : ℕ) where
   -- ---- the walk of the fields

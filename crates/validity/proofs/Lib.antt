@@ -1,2 +1,2 @@
 -- Laws of the tests of a job.
-pub mod Outcomes
+pub mod Tests

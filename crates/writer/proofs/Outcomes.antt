@@ -21,7 +21,7 @@ use Rattle.count.specs.State.{resultOf, Kept}
 use Rattle.count.specs.declared.Ended.{Ended}
 use Rattle.plain.specs.declared.rounds.Measure.{Measure}
 use Rattle.validity.specs.Tests.{Stops}
-use Rattle.validity.proofs.Outcomes.{plainly}
+use Rattle.validity.proofs.Tests.{plainly}
 use Rattle.writer.specs.Steps.{Measured}
 
 module _ (job : Job) where

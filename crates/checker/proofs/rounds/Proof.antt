@@ -38,7 +38,7 @@ abbrev Comes : tie.After-read-round Inv-loop μ-loop → RoundOutcome → Type 0
 Comes c o =
     let a = (entry c) .args in
     let l = c .before .loop in
-    RoundComes (now (a .board)) (a .h) (l .count) (l .round .m) (l .round .a) o (c .read-round .result .count) (c .read-round .result .next) (c .read-round .result .number)
+    RoundComes (now (a .board)) (a .h) (l .count) (l .round .m) (l .round .a) o (c .read-round .result .count)
 
 -- the verdict on the whole board, where the round has a verdict of its own
 ended : (c : tie.After-read-round Inv-loop μ-loop) (W : Verdict) →
@@ -94,7 +94,7 @@ returns-2 c =
     )
 
 -- the round stays open
-opens : (c : tie.After-known-told3 Inv-loop μ-loop) → Comes (c .before .before .before) (Open (c .before .outcome3 .given .0 .0))
+opens : (c : tie.After-known-told3 Inv-loop μ-loop) → Comes (c .before .before .before) (Open (c .before .outcome3 .given .0 .0) (c .before .outcome3 .given .0 .1 .0) (c .before .outcome3 .given .0 .1 .1 .0))
 opens c = rw (c .before .outcome3 .given .1) at (c .before .before .before .read-round .ensures)
 
 loop-again : tie.Need-loop-again Inv-loop μ-loop
@@ -106,7 +106,7 @@ loop-again c =
     let l = r .before .loop in
     let o = opens w in
     let H = headOf (now (a .board)) (a .h) in
-    rw (c .next2 .ensures) (
+    rw (c .next .ensures) (
       begins-next (now (a .board)) (a .h) (l .place) (l .round) (l .inv .0) (standingOf (a .h .n) (l .count)) _ (sheets-many (a .h .n) (l .count) (l .inv .2) ∙ l .inv .1)
           (o .1) _ _ (o .2) (o .3) (o .4) _
           (rw (o .5) (one-leaves (a .h .n) (l .count) _ (l .inv .2) (omega (arith, l .inv .1, l .inv .0 .early)))) (o .6),
@@ -123,4 +123,4 @@ rounds-spec =
     (λ c κs. (c .before .before .before .before .pre .0, c .loop .inv .0, c .loop .inv .2, c .loop .inv .1)) (λ c. search needs)
     (λ c κs. search needs) returns (λ c. search needs) accepted-requires returns-2 (λ c. search needs)
     (λ c κs. let s = entry (c .before .before .before .before) in omega (arith, c .before .before .before .before .before .loop .inv .0 .early, s .pre .0 .high))
-    (λ c. rw (c .next2 .ensures) (omega (arith, c .before .before .before .before .before .before .loop .inv .0 .early))) loop-again)
+    (λ c. rw (c .next .ensures) (omega (arith, c .before .before .before .before .before .before .loop .inv .0 .early))) loop-again)

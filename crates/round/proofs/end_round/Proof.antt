@@ -21,7 +21,7 @@ returns c =
     let s = c .before .before .before .before .before in
     let w = rw (c .before .before .fault .given .1) at (s .pre .1 .0) in
     rw (c .refused .ensures .0, c .refused .ensures .1)
-    (by-record _ _ _ _ _ _ _ _ (w .0) _ (w .2) (w .3))
+    (by-record _ _ _ _ _ _ (w .0) _ (w .2) (w .5))
 
 -- the entry, from where the tally is read
 abbrev start : tie.After-tally → tie.Start
@@ -55,11 +55,11 @@ read-sheet-requires c κs =
 -- what the sheet comes to, and where it ends
 read : (c : tie.After-read-sheet) →
     let a = (start (c .before)) .args in
-    Stepping (now (a .board)) (a .h) (a .count) (a .round .m) (a .round .a) 0 0 (c .read-sheet .result .outcome) (c .read-sheet .result .count)
+    Stepping (now (a .board)) (a .h) (a .count) (a .round .m) (a .round .a) (c .read-sheet .result .outcome) (c .read-sheet .result .count)
 unfolding Searched
 read c =
     let s = start (c .before) in
-    stepping (now (s .args .board)) (s .args .h) (s .args .count) (s .args .round .m) (s .args .round .a) 0 0 _ _ _ (here (c .before)) (s .pre .0 .2) (c .read-sheet .ensures .0 _ (found (c .before) .4))
+    stepping (now (s .args .board)) (s .args .h) (s .args .count) (s .args .round .m) (s .args .round .a) _ _ _ (here (c .before)) (s .pre .0 .2) (c .read-sheet .ensures .0 _ (found (c .before) .4))
 
 after : (c : tie.After-read-sheet) →
     let a = (start (c .before)) .args in
@@ -73,7 +73,7 @@ returns-2 c =
     let r = o .before .before .before in
     let f = found (r .before) in
     rw (c .refused3 .ensures .0, c .refused3 .ensures .1)
-    (by-rest _ _ _ _ _ _ _ (f .0) _ _ _ (after r) (rw (o .outcome2 .given .1) at (read r)) _ (λ z. omega arith) (ap (λ (x : ℕ). x + 1) (f .3)))
+    (by-rest _ _ _ _ _ (f .0) _ _ _ (after r) (rw (o .outcome2 .given .1) at (read r)) _ (λ z. omega arith) (ap (λ (x : ℕ). x + 1) (f .3)))
 
 returns-3 : tie.Need-returns-3
 unfolding Searched
@@ -82,14 +82,14 @@ returns-3 c =
     let r = o .before .before .before in
     let f = found (r .before) in
     rw (c .refused2 .ensures .0, c .refused2 .ensures .1)
-    (by-sheet _ _ _ _ _ _ _ (f .0) _ _ _ (rw (o .outcome .given .1) at (read r)) (f .3))
+    (by-sheet _ _ _ _ _ (f .0) _ _ _ (rw (o .outcome .given .1) at (read r)) (f .3))
 
 returns-4 : tie.Need-returns-4
 unfolding Searched
 returns-4 c =
     let o = c .before .before in
     let r = o .before .before .before in
-    by-end _ _ _ _ _ _ _ (found (r .before) .0) _ _ _ (after r) (rw (o .outcome2 .given .1) at (read r)) (omega arith)
+    by-end _ _ _ _ _ (found (r .before) .0) _ _ _ (after r) (rw (o .outcome2 .given .1) at (read r)) (omega arith)
 
 returns-5 : tie.Need-returns-5
 unfolding Searched
@@ -97,12 +97,12 @@ returns-5 c =
     let o = c .before in
     let r = o .before .before .before in
     let f = found (r .before) in
-    by-next _ _ _ _ _ _ _ (f .0) _ _ (after r) (rw (o .outcome3 .given .1) at (read r)) (ap (λ (x : ℕ). x + 1) (f .3))
+    by-next _ _ _ _ _ (f .0) _ _ _ _ (after r) (rw (o .outcome3 .given .1) at (read r)) (ap (λ (x : ℕ). x + 1) (f .3))
 
 pub end-round-spec : {M : Type 1} → statement M
 end-round-spec =
     tie.close
     (tie.spec (λ c. search needs) (λ c κs. search needs) returns (λ c. search needs) read-sheet-requires (λ c. search needs) (λ c κs. search needs)
     (λ c. search needs) (λ c. omega (arith, small (c .before .before .before .before .before .before))) (λ c κs. search needs) returns-2
-    (λ c. omega (arith, small (c .before .before .before .before .before .before))) (λ c. search needs) (λ c. omega (arith, small (c .before .before .before .before .before)))
+    (λ c. search needs) (λ c. omega (arith, small (c .before .before .before .before .before)))
     returns-3 returns-4 returns-5)

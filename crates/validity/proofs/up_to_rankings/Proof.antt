@@ -15,7 +15,7 @@ use Rattle.plain.proofs.Counted.{at-most}
 use Rattle.parameters.proofs.Rules.{orders-positive, sizes-bounds}
 use Rattle.validity.specs.Jobs.{jobOf}
 use Rattle.validity.specs.Tests.{JobTested}
-use Rattle.validity.proofs.Outcomes.{group-positive, label-is, well-ranked, stops-sizes, stops-orders, stops-label, stops-length, stops-ranking}
+use Rattle.validity.proofs.Tests.{group-positive, label-is, well-ranked, stops-sizes, stops-orders, stops-label, stops-length, stops-ranking}
 use borrow.Author.Needs.{needs}
 use Rattle.validity.proofs.up_to_rankings.Statement.{statement}
 use Rattle.validity.proofs.up_to_rankings.Tie as tie

@@ -13,7 +13,7 @@ use Rattle.jobs.proofs.FineJob.{fine}
 use Rattle.validity.specs.Jobs.{jobOf}
 use Rattle.validity.specs.Tests.{JobTested}
 use Rattle.validity.specs.declared.Tested.{Tested}
-use Rattle.validity.proofs.Outcomes.{group-positive}
+use Rattle.validity.proofs.Tests.{group-positive}
 use Rattle.writer.specs.Steps.{Measured, Put}
 use Rattle.writer.proofs.Outcomes.{measurable, measured, draws-are, stops-draws, stops-room, refuses}
 use Rattle.writer.proofs.Boards.{bytesFor, can, sheeted, room, writes}
