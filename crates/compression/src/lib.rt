@@ -1,8 +1,9 @@
 // FIPS 180-4, 6.2.2: the hash value after one block of 64 bytes.
 ghost use mathlib.Core.Path.{_≡_};
 ghost use Prim.Native.Nat.{_<_};
+ghost use lib.ListN.{length};
 ghost use Rattle.compression.specs.Words.{_⊞_, σ₀, σ₁};
-ghost use Rattle.compression.specs.Block.{K, _!_, word, schedule, T₁, T₂, compress};
+ghost use Rattle.compression.specs.Block.{word, schedule, T₁, T₂, compress};
 use std::num;
 
 mod words;
@@ -74,13 +75,6 @@ const ROUND: [u32; 64] = [
     0xc67178f2,
 ];
 
-fn constant(t: usize) -> u32
-    requires { ⌜ t < 64 ⌝ }
-    ensures { λ r. ⌜ r ≡ K ! t ⌝ }
-{
-    ROUND[t]
-}
-
 fn wide(x: u8) -> u32
     ensures { λ r. ⌜ (r ≡ x) × (r < 256) ⌝ }
 {
@@ -109,10 +103,11 @@ fn next_word(w16: u32, w15: u32, w7: u32, w2: u32) -> u32
     )
 }
 
-fn expanded(b: &[u8; 64]) -> [u32; 64]
-    ensures { λ r. ⌜ r ≡ schedule (now (b .entry)) 48 ⌝ }
+// The schedule of a block.
+fn expand(b: &[u8; 64], w: &mut [u32])
+    requires { ⌜ length (now w) ≡ 64 ⌝ }
+    ensures { λ _. ⌜ now (w .exit) ≡ schedule (now (b .entry)) 48 ⌝ }
 {
-    let mut w = [0u32; 64];
     let mut i = 0;
     while i < 16 {
         w[i] = word_at(b, i);
@@ -123,7 +118,6 @@ fn expanded(b: &[u8; 64]) -> [u32; 64]
         w[n + 16] = next_word(w[n], w[n + 1], w[n + 9], w[n + 14]);
         n += 1;
     }
-    w
 }
 
 fn temp1(e: u32, f: u32, g: u32, h: u32, k: u32, w: u32) -> u32
@@ -150,7 +144,9 @@ fn temp2(a: u32, b: u32, c: u32) -> u32
 pub fn compress(state: [u32; 8], block: &[u8; 64]) -> [u32; 8]
     ensures { λ r. ⌜ r ≡ compress state (now (block .entry)) ⌝ }
 {
-    let ws = expanded(block);
+    let ks = ROUND;
+    let mut ws = [0u32; 64];
+    expand(block, &mut ws);
     let mut a = state[0];
     let mut b = state[1];
     let mut c = state[2];
@@ -161,7 +157,7 @@ pub fn compress(state: [u32; 8], block: &[u8; 64]) -> [u32; 8]
     let mut h = state[7];
     let mut t = 0;
     while t < 64 {
-        let t1 = temp1(e, f, g, h, constant(t), ws[t]);
+        let t1 = temp1(e, f, g, h, ks[t], ws[t]);
         let t2 = temp2(a, b, c);
         h = g;
         g = f;

@@ -2,16 +2,16 @@ use borrow.Author.Needs.{needs}
 use mathlib.Core.Path.{refl}
 use Prim.Native.Nat.{_-_, _≤_}
 use native.Mathlib.Omega.{arith}
-use Rattle.compression.specs.Block.{rounds}
+use Rattle.compression.specs.Block.{K, rounds}
 use Rattle.compression.proofs.Laws.{Eight, rounds-more, compress-end}
 use Rattle.compression.proofs.compress.Statement.{statement}
 use Rattle.compression.proofs.compress.Tie as tie
 
 abbrev Inv-loop : tie.InvT-loop
-Inv-loop block state ws a₀ b₀ c₀ d₀ e₀ f₀ g₀ h₀ t₀ a b c d e f g h t = (t ≤ 64) × Eight (rounds ws state t) a b c d e f g h
+Inv-loop block state ks ws a₀ b₀ c₀ d₀ e₀ f₀ g₀ h₀ t₀ a b c d e f g h t = (t ≤ 64) × Eight (rounds ws state t) a b c d e f g h
 
 abbrev μ-loop : tie.MeasureT-loop
-μ-loop block state ws a₀ b₀ c₀ d₀ e₀ f₀ g₀ h₀ t₀ a b c d e f g h t = 64 - t
+μ-loop block state ks ws a₀ b₀ c₀ d₀ e₀ f₀ g₀ h₀ t₀ a b c d e f g h t = 64 - t
 
 loop-holds : tie.Need-loop-holds Inv-loop μ-loop
 unfolding rounds
@@ -19,12 +19,14 @@ loop-holds c =
     (search needs, record { isA = refl; isB = refl; isC = refl; isD = refl; isE = refl; isF = refl; isG = refl; isH = refl })
 
 loop-again : tie.Need-loop-again Inv-loop μ-loop
+unfolding K
 loop-again c =
-    let c3 = c .before .before .before in (
+    let c3 = c .before .before .before in
+    let l = c3 .before .before in (
       omega arith,
       rounds-more _ _ _ _ _ _ _ _ _ _ _ _ _ _ _ _ _
-          (c3 .before .before .before .loop .inv .1)
-          (c3 .before .constant .ensures)
+          (l .loop .inv .1)
+          refl
           refl
           (c3 .temp1 .ensures)
           (c .before .before .temp2 .ensures)
@@ -37,7 +39,7 @@ returns c =
     let c4 = c .before .before .before .before in
     let c8 = c4 .before .before .before .before in
     compress-end _ _ _ _ _ _ _ _ _ _ _ _ _ _ _ _ _ _ _ _
-    (c8 .before .before .expanded .ensures)
+    (c8 .before .before .before .expand .ensures)
     (omega (arith, c8))
     (c8 .before .loop .inv .1)
     (c4 .before .before .before .wrapping-add-u323 .ensures)
@@ -50,8 +52,8 @@ returns c =
     (c .wrapping-add-u3210 .ensures)
 
 pub compress-spec : {M : Type 1} → statement M
-compress-spec = tie.close (tie.spec Inv-loop μ-loop (λ c κs. search needs) (λ c. search needs) (λ c. search needs) (λ c. search needs) (λ c. search needs)
-    (λ c. search needs) (λ c. search needs) (λ c. search needs) (λ c. search needs) loop-holds (λ c κs. search needs) (λ c. search needs) (λ c. search needs)
+compress-spec = tie.close (tie.spec Inv-loop μ-loop (λ c. search needs) (λ c κs. search needs) (λ c. search needs) (λ c. search needs) (λ c. search needs) (λ c. search needs)
+    (λ c. search needs) (λ c. search needs) (λ c. search needs) (λ c. search needs) loop-holds (λ c. search needs) (λ c. search needs) (λ c. search needs) (λ c. search needs)
     (λ c κs. search needs) (λ c κs. search needs) (λ c κs. search needs) (λ c κs. search needs) (λ c. search needs) (λ c. search needs) loop-again
     (λ c. search needs) (λ c κs. search needs) (λ c. search needs) (λ c κs. search needs) (λ c. search needs) (λ c κs. search needs) (λ c. search needs)
     (λ c κs. search needs) (λ c. search needs) (λ c κs. search needs) (λ c. search needs) (λ c κs. search needs) (λ c. search needs) (λ c κs. search needs)

@@ -6,8 +6,8 @@ use lib.ListN.{length, take, length-set}
 use lib.Seq.{take-all}
 use Rattle.compression.specs.Block.{words, schedule}
 use Rattle.compression.proofs.Laws.{words-more, schedule-more}
-use Rattle.compression.proofs.expanded.Statement.{statement}
-use Rattle.compression.proofs.expanded.Tie as tie
+use Rattle.compression.proofs.expand.Statement.{statement}
+use Rattle.compression.proofs.expand.Tie as tie
 
 abbrev Inv-loop : tie.InvT-loop
 Inv-loop b w₀ i₀ w i = (i ≤ 16) × (length w ≡ 64) × (take i w ≡ words b i)
@@ -23,7 +23,7 @@ abbrev μ-loop2 : tie.MeasureT-loop2
 
 loop-holds : tie.Need-loop-holds Inv-loop μ-loop Inv-loop2 μ-loop2
 unfolding words
-loop-holds c = (search needs, refl, refl)
+loop-holds c = (search needs, c .before .pre, refl)
 
 loop2-holds : tie.Need-loop2-holds Inv-loop μ-loop Inv-loop2 μ-loop2
 unfolding schedule
@@ -32,12 +32,13 @@ loop2-holds c =
     let e : l .i ≡ 16 = omega arith in
     (search needs, l .inv .1, rw e at (l .inv .2))
 
-pub expanded-spec : {M : Type 1} → statement M
-expanded-spec = tie.close (tie.spec Inv-loop μ-loop Inv-loop2 μ-loop2 loop-holds (λ c κs. search needs) (λ c. search needs) (λ c. search needs)
+pub expand-spec : {M : Type 1} → statement M
+expand-spec = tie.close (tie.spec Inv-loop μ-loop Inv-loop2 μ-loop2 loop-holds (λ c κs. search needs) (λ c. search needs) (λ c. search needs)
     (λ c. search needs) (λ c. search needs)
     (λ c. let l = c .before .before .loop in (omega arith, simp length-set (l .inv .1), words-more _ (l .w) (l .i) _ (omega arith) (l .inv .2) (c .word-at .ensures)))
     loop2-holds (λ c. search needs) (λ c. search needs) (λ c. search needs) (λ c. search needs) (λ c. search needs) (λ c. search needs) (λ c. search needs)
     (λ c. search needs) (λ c. search needs) (λ c. search needs) (λ c. search needs) (λ c κs. search needs) (λ c. search needs) (λ c. search needs)
     (λ c. search needs) (λ c. search needs) (λ c. search needs)
-    (λ c. let l = c .before .before .loop2 in (omega arith, simp length-set (l .inv .1), schedule-more _ (l .w) (l .n) _ (omega arith) (l .inv .2) (c .next-word .ensures)))
+    (λ c. let l = c .before .before .before .before .before .before .loop2 in (omega arith, simp length-set (l .inv .1), schedule-more _ (l .w) (l .n) _ (omega arith) (l .inv .2) (c .next-word .ensures)))
+    (λ c. c .before .loop2 .inv .1 ∙ sym (c .before .before .before .before .before .pre))
     (λ c. let l = c .before .loop2 in let e : l .n ≡ 48 = omega arith in sym (take-all 64 (l .w) (omega arith)) ∙ rw e at (l .inv .2)))
