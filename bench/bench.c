@@ -1,25 +1,25 @@
 /*
  * Measures the library's checker against plain C of the same algorithm:
  *
- *   bench [-r REPEATS] [-s SECONDS] BOARD...
+ *   bench [-r REPEATS] [-s SECONDS] [-f BOARD] BOARD...
  *
  * Each board, NAME.board, is checked by turns, at least REPEATS times and for at least SECONDS in
- * all, in another order each time. NAME.answer has what every checker must answer. Times are
- * processor time. Ends with 1 if an answer is another.
+ * all, in another order each time. NAME.answer has what every checker must answer. With -f receipts
+ * are found on that board (find.c). Times are processor time. Ends with 1 if an answer is another.
  *
- * CHECKERS names the copies of plain.c, one for each compiler: X(gcc) stands for plain_check_gcc.
+ * CHECKERS names the copies of plain.c, one for each compiler: X(gcc) stands for plain_check_gcc and
+ * plain_digests_gcc.
  */
-#define _POSIX_C_SOURCE 200809L /* clock_gettime */
-
 #include "files.h"
+#include "find.h"
 #include "library.h"
 #include "plain/plain.h"
+#include "times.h"
 
 #include <stdbool.h>
 #include <stdio.h>
 #include <stdlib.h>
 #include <string.h>
-#include <time.h>
 
 #define X(name) size_t plain_check_##name(const uint8_t *board, size_t length, size_t *answer);
 CHECKERS
@@ -35,7 +35,7 @@ struct checker {
 static const struct checker CHECKER[] = {CHECKERS{"library", library_check}};
 #undef X
 
-enum { COUNT = sizeof CHECKER / sizeof *CHECKER, LIBRARY = COUNT - 1, MOST_TIMES = 4096 };
+enum { COUNT = sizeof CHECKER / sizeof *CHECKER, LIBRARY = COUNT - 1 };
 
 /* What is known of a board, and the times of each checker in milliseconds. */
 struct board {
@@ -45,14 +45,6 @@ struct board {
     size_t due[1 + PLAIN_ANSWER];
     double least[COUNT], median[COUNT];
 };
-
-static double milliseconds(clockid_t clock)
-{
-    struct timespec now;
-
-    clock_gettime(clock, &now);
-    return 1e3 * (double)now.tv_sec + 1e-6 * (double)now.tv_nsec;
-}
 
 static void read_answer(struct board *board)
 {
@@ -92,49 +84,21 @@ static void read_board(struct board *board, const char *path)
 }
 
 /* The time of one check. Its answer must be the one due. */
-static double measure(const struct board *board, const struct checker *checker)
+static double once(const void *what, size_t turn)
 {
+    const struct board *board = what;
+    const struct checker *checker = &CHECKER[turn];
     size_t answer[1 + PLAIN_ANSWER];
-    double start = milliseconds(CLOCK_PROCESS_CPUTIME_ID);
+    double start = processor_time();
 
     answer[0] = checker->check(board->bytes, board->length, answer + 1);
-    double taken = milliseconds(CLOCK_PROCESS_CPUTIME_ID) - start;
+    double taken = processor_time() - start;
     if (memcmp(answer, board->due, sizeof answer) != 0) {
         fprintf(stderr, "%s: %s answers %zu %zu, not as due\n", board->path, checker->name,
                 answer[0], answer[1]);
         exit(1);
     }
     return taken;
-}
-
-static int compare(const void *a, const void *b)
-{
-    double x = *(const double *)a, y = *(const double *)b;
-
-    return (x > y) - (x < y);
-}
-
-static void run(struct board *board, size_t repeats, double seconds)
-{
-    static double times[COUNT][MOST_TIMES];
-    double end = milliseconds(CLOCK_MONOTONIC) + 1e3 * seconds;
-    size_t done = 0;
-
-    for (size_t c = 0; c < COUNT; c++) {
-        measure(board, &CHECKER[c]); /* a first run, not counted */
-    }
-    while (done < MOST_TIMES && (done < repeats || milliseconds(CLOCK_MONOTONIC) < end)) {
-        for (size_t c = 0; c < COUNT; c++) {
-            size_t turn = (c + done) % COUNT;
-            times[turn][done] = measure(board, &CHECKER[turn]);
-        }
-        done++;
-    }
-    for (size_t c = 0; c < COUNT; c++) {
-        qsort(times[c], done, sizeof times[c][0], compare);
-        board->least[c] = times[c][0];
-        board->median[c] = times[c][done / 2];
-    }
 }
 
 static double faster_plain(const double *times)
@@ -219,9 +183,26 @@ static void print_highest(const struct board *boards, size_t count)
     printf("\nhighest ratio to the faster plain C: %.3f (%s)\n", highest, name_of(boards[at].path));
 }
 
+static void measure_checks(char **paths, size_t count, size_t repeats, double seconds)
+{
+    struct board *boards = room_for(count, sizeof *boards);
+
+    print_heading();
+    for (size_t i = 0; i < count; i++) {
+        struct board *board = &boards[i];
+        read_board(board, paths[i]);
+        by_turns(once, board, COUNT, repeats, seconds, board->least, board->median);
+        print_line(board);
+        free(board->bytes);
+    }
+    print_growth(boards, count);
+    print_highest(boards, count);
+    free(boards);
+}
+
 static int usage(void)
 {
-    fputs("usage: bench [-r REPEATS] [-s SECONDS] BOARD...\n", stderr);
+    fputs("usage: bench [-r REPEATS] [-s SECONDS] [-f BOARD] BOARD...\n", stderr);
     return 2;
 }
 
@@ -229,6 +210,7 @@ int main(int count, char **arguments)
 {
     size_t repeats = 5;
     double seconds = 3;
+    const char *walked = NULL;
     int first = 1;
 
     while (first + 1 < count && arguments[first][0] == '-') {
@@ -236,6 +218,8 @@ int main(int count, char **arguments)
             repeats = strtoul(arguments[first + 1], NULL, 10);
         } else if (strcmp(arguments[first], "-s") == 0) {
             seconds = strtod(arguments[first + 1], NULL);
+        } else if (strcmp(arguments[first], "-f") == 0) {
+            walked = arguments[first + 1];
         } else {
             return usage();
         }
@@ -244,17 +228,9 @@ int main(int count, char **arguments)
     if (first >= count || repeats < 1) {
         return usage();
     }
-    size_t boards = (size_t)(count - first);
-    struct board *board = room_for(boards, sizeof *board);
-    print_heading();
-    for (size_t i = 0; i < boards; i++) {
-        read_board(&board[i], arguments[(size_t)first + i]);
-        run(&board[i], repeats, seconds);
-        print_line(&board[i]);
-        free(board[i].bytes);
+    measure_checks(arguments + first, (size_t)(count - first), repeats, seconds);
+    if (walked != NULL) {
+        measure_find(walked, repeats, seconds);
     }
-    print_growth(board, boards);
-    print_highest(board, boards);
-    free(board);
     return 0;
 }

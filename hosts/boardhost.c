@@ -1,15 +1,22 @@
-/* An example host in C: lends boards of any size to the library, and prints boardcheck's verdicts.
+/* An example host in C: lends boards of any size to the library, and prints boardcheck's verdicts or
+ * the ballots of receipts.
  *
- *   boardhost FILE...     a verdict for each file; with no file, for the board on standard input
+ *   boardhost FILE...                  a verdict for each file
+ *   boardhost --digests FILE BOARD...  for each board a line: found, and for each digest of FILE (of
+ *                                      32 bytes, one after another) the ballot's number or 0; or the
+ *                                      refusal
  *
- * A board that cannot be read gets a line on standard error and no verdict, and the next one follows.
- * Ends with 0 if all boards are accepted, 1 if one is refused, 2 if one cannot be read. */
+ * With no board it takes the one on standard input. A board that cannot be read gets a line on
+ * standard error and no answer, and the next one follows; if the digests cannot be read, none gets an
+ * answer. Ends with 0 if all boards are accepted or walked, 1 if one is refused, 2 if a file cannot be
+ * read. */
 #include <stdio.h>
 #include <stdlib.h>
+#include <string.h>
 
 #include "gooseoften.h"
 
-enum { ACCEPTED = 0, REFUSED = 1, UNREAD = 2 };
+enum { ANSWERED = 0, REFUSED = 1, UNREAD = 2, DIGEST = 32 };
 
 struct bytes {
     uint8_t *start;
@@ -38,58 +45,115 @@ static struct bytes read_all(FILE *stream)
     return all;
 }
 
-static int print_verdict(const uint8_t *board, size_t length)
+/* The bytes of a file, of standard input where it has no name; a line on standard error and no start
+ * where it cannot be read. */
+static struct bytes read_named(const char *name)
+{
+    struct bytes all = {NULL, 0};
+    FILE *file = name == NULL ? stdin : fopen(name, "rb");
+    if (file != NULL) {
+        all = read_all(file);
+        if (name != NULL) {
+            fclose(file);
+        }
+    }
+    if (all.start == NULL) {
+        fprintf(stderr, "boardhost: cannot read %s\n", name == NULL ? "standard input" : name);
+    }
+    return all;
+}
+
+static int print_refusal(size_t code)
+{
+    printf("refused %zu %zu\n", gooseoften_refusal_number(code), gooseoften_refusal_record(code));
+    return REFUSED;
+}
+
+static int print_verdict(struct bytes board)
 {
     size_t answer[GOOSEOFTEN_CHECK_LENGTH];
-    size_t code = gooseoften_check(board, length, answer);
+    size_t code = gooseoften_check(board.start, board.length, answer);
     if (code != 0) {
-        printf("refused %zu %zu\n", gooseoften_refusal_number(code),
-               gooseoften_refusal_record(code));
-        return REFUSED;
+        return print_refusal(code);
     }
     printf("accepted\nrounds %zu\n", answer[GOOSEOFTEN_ROUNDS]);
     for (size_t i = 0; i + 1 < answer[GOOSEOFTEN_ROUNDS]; i++) {
         printf("out %zu\n", answer[GOOSEOFTEN_ORDER + i]);
     }
     printf("winner %zu\n", answer[GOOSEOFTEN_WINNER]);
-    return ACCEPTED;
+    return ANSWERED;
 }
 
-/* The verdict on the rest of a stream; what it is called is said where it cannot be read. */
-static int verdict_on(FILE *stream, const char *name)
+/* found has a place for each digest. */
+static int print_found(struct bytes board, struct bytes digests, uint16_t *found)
 {
-    struct bytes board = {NULL, 0};
-    if (stream != NULL) {
-        board = read_all(stream);
+    size_t count = digests.length / DIGEST;
+    size_t code = gooseoften_find(board.start, board.length, digests.start, digests.length, found,
+                                  count);
+    if (code != 0) {
+        return print_refusal(code);
     }
+    printf("found");
+    for (size_t i = 0; i < count; i++) {
+        printf(" %u", (unsigned)found[i]);
+    }
+    printf("\n");
+    return ANSWERED;
+}
+
+/* The answer to one board; without digests, which have no start then, the verdict. */
+static int answer(const char *name, struct bytes digests, uint16_t *found)
+{
+    struct bytes board = read_named(name);
     if (board.start == NULL) {
-        fprintf(stderr, "boardhost: cannot read %s\n", name);
         return UNREAD;
     }
-    int verdict = print_verdict(board.start, board.length);
+    int answered = digests.start == NULL ? print_verdict(board) : print_found(board, digests, found);
     free(board.start);
-    return verdict;
+    return answered;
 }
 
-static int verdict_on_file(const char *name)
+/* The worst of the answers to the boards of these names. */
+static int answer_all(int count, char **names, struct bytes digests, uint16_t *found)
 {
-    FILE *file = fopen(name, "rb");
-    int verdict = verdict_on(file, name);
-    if (file != NULL) {
-        fclose(file);
+    if (count == 0) {
+        return answer(NULL, digests, found);
     }
-    return verdict;
-}
-
-int main(int count, char **names)
-{
-    if (count < 2) {
-        return verdict_on(stdin, "standard input");
-    }
-    int worst = ACCEPTED;
-    for (int i = 1; i < count; i++) {
-        int verdict = verdict_on_file(names[i]);
-        worst = verdict > worst ? verdict : worst;
+    int worst = ANSWERED;
+    for (int i = 0; i < count; i++) {
+        int answered = answer(names[i], digests, found);
+        worst = answered > worst ? answered : worst;
     }
     return worst;
+}
+
+static int find_all(const char *name, int count, char **names)
+{
+    struct bytes digests = read_named(name);
+    if (digests.start == NULL) {
+        return UNREAD;
+    }
+    uint16_t *found = calloc(digests.length / DIGEST + 1, sizeof *found);
+    int worst = UNREAD;
+    if (found == NULL) {
+        fprintf(stderr, "boardhost: no memory for the numbers of %s\n", name);
+    } else {
+        worst = answer_all(count, names, digests, found);
+    }
+    free(found);
+    free(digests.start);
+    return worst;
+}
+
+int main(int count, char **arguments)
+{
+    struct bytes none = {NULL, 0};
+    if (count < 2 || strcmp(arguments[1], "--digests") != 0) {
+        return answer_all(count - 1, arguments + 1, none, NULL);
+    }
+    if (count < 3) {
+        fprintf(stderr, "usage: boardhost [--digests FILE] [BOARD...]\n");
+        return UNREAD;
+    }
+    return find_all(arguments[2], count - 3, arguments + 3);
 }

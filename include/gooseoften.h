@@ -1,10 +1,11 @@
-/* Gooseoften: checks and writes ranked-ballot boards. Link with libgooseoften.a.
+/* Gooseoften: checks and writes ranked-ballot boards, and finds receipts on them. Link with
+ * libgooseoften.a.
  *
- * Both functions take any bytes and any numbers, keep nothing between calls, allocate nothing, and
- * read and write only what is lent. What they return and write is proved.
+ * The three functions take any bytes and any numbers, keep nothing between calls, allocate nothing,
+ * and read and write only what is lent. What they return and write is proved.
  *
  * The caller sees to it that each pointer has as many elements behind it as the length after it
- * says, that answer has its fixed length, that out and answer overlap nothing else that is
+ * says, that answer has its fixed length, that out, found and answer overlap nothing else that is
  * lent, and that nobody else writes to what is lent before the call returns. Where a length is 0 the
  * pointer may be anything, null too: nothing is read or written through it. answer is never null. */
 #ifndef GOOSEOFTEN_H
@@ -17,7 +18,7 @@
 extern "C" {
 #endif
 
-/* Both functions return 0, or a refusal: the number of the first rule that is broken, and 256 times
+/* The functions return 0, or a refusal: the number of the first rule that is broken, and 256 times
  * the record (or the ranking) that goes with it. These are the numbers. */
 enum gooseoften_refusal {
     GOOSEOFTEN_LENGTH = 1,     /* bytes left are fewer than the record's length */
@@ -34,7 +35,9 @@ enum gooseoften_refusal {
     GOOSEOFTEN_REMAIN = 12,    /* bytes remain after the closing sheet */
     GOOSEOFTEN_RANKINGS = 13,  /* the rankings' length is wrong, or a ranking lacks a process */
     GOOSEOFTEN_DRAWS = 14,     /* draws are too few, or one is outside 1 to q - 1 */
-    GOOSEOFTEN_OUTPUT = 15     /* out is shorter than the board */
+    GOOSEOFTEN_OUTPUT = 15,    /* out or found is shorter than what is to be written */
+    GOOSEOFTEN_DIGESTS = 16    /* the digests are more than 500, out of order, or no multiple of 32
+                                  bytes */
 };
 
 static inline size_t gooseoften_refusal_number(size_t code)
@@ -72,6 +75,16 @@ size_t gooseoften_write(size_t n, size_t k, uint32_t p, uint32_t q, uint32_t g0,
                         const uint32_t *draws, size_t draws_length,
                         uint8_t *out, size_t out_length,
                         size_t answer[GOOSEOFTEN_WRITE_LENGTH]);
+
+/* Finds the ballots of receipts in one walk; a receipt is the SHA-256 digest of a BA record, all its
+ * bytes. Writes for each digest to the front of found the number of its ballot from 1, of several the
+ * lowest, or 0 for none, or refuses and leaves found as it was. Digests: up to 500 of 32 bytes, one
+ * after another, none below the one before it. They are tested first (16), then found's length (15),
+ * then the header and each BA's length, mark and number (1 to 6). Fields and proofs are left to the
+ * check, and nothing after the last BA is read. */
+size_t gooseoften_find(const uint8_t *board, size_t board_length,
+                       const uint8_t *digests, size_t digests_length,
+                       uint16_t *found, size_t found_length);
 
 #ifdef __cplusplus
 }

@@ -72,11 +72,42 @@ JOBS = {
     'n8': 'written: n = 8 in 7 rounds',
 }
 
+FINDS = {
+    '1': 'refusal 1: header and each ballot cut',
+    '2': 'refusal 2: mark of the header, of each ballot',
+    '3': 'refusal 3: n, K',
+    '4': 'refusal 4: p, q',
+    '5': 'refusal 5: g0, counter or g1, label',
+    '6': 'refusal 6: number of a ballot',
+    '15': 'refusal 15: no place at all, some, all but one',
+    '16.length': 'refusal 16: a length that is no multiple of 32',
+    '16.most': 'refusal 16: 501 digests and more',
+    '16.byte': 'refusal 16: below the one before it in the first, a middle, the last byte',
+    '16.pair': 'refusal 16: below the one before it in the first, a middle, the last pair',
+    'two': 'two faults: the one that is named',
+    'order': 'ballots left out, twice, exchanged',
+    'found': 'found: a ballot by its number',
+    'place': 'found: a digest by its place on the list',
+    'count': 'found: 0, 1, 2 and 500 digests',
+    'equal': 'found: equal digests, 2, 3 and 500',
+    'absent': 'found: digests that no ballot has',
+    'other': 'found: digests of a ballot without its mark, of other records, of the whole board',
+    'room': 'found: places to spare, kept as they were',
+    'behind': 'found: nothing, a part or a fault behind the last ballot',
+    'unproved': 'found: a ballot whose fields or proofs fail',
+    'n': 'found: 2 to 8 processes',
+    'groups': 'found: the least group, a tiny one, q just above K',
+    'K1000': 'found: K = 1,000 with n = 2',
+}
+
 # rows that are counted by place, with the places that they have
 PLACED = {key: PLACES for key in BOARDS if key[0].isdigit()}
 PLACED['3'] = PLACED['4'] = ('first', 'last')
 JOB_PLACED = {key: PLACES for key in ('5', '13', '14', '15')}
 JOB_PLACED['3'] = JOB_PLACED['4'] = ('first', 'last')
+FIND_PLACED = {key: PLACES for key in ('1', '2', '5', '6', '15', '16.byte', '16.pair', 'found',
+                                       'place')}
+FIND_PLACED['3'] = FIND_PLACED['4'] = ('first', 'last')
 
 
 class Cases:

@@ -9,8 +9,10 @@ It builds libgooseoften.a (`rt staticlib gooseoften`) and the hosts in C and in 
     reference made;
   - their verdicts on boards beyond 65,536 bytes, sound and damaged, with the reference's;
   - what both do with files that cannot be read, and with which status they end;
+  - what both print of the digests of a file, for the stored finds of crates/find_cases;
   - gooseoften_write on the stored jobs of crates/job_cases with the stored replies;
-  - both functions with a null pointer wherever a length is 0;
+  - gooseoften_find on the stored finds of crates/find_cases with the stored replies;
+  - the functions with a null pointer wherever a length is 0;
   - the stack that a call takes with the most that README names.
 
 A compiler that is missing fails the test, unless --without-c or --without-rust asks for what needs
@@ -104,15 +106,17 @@ def due_of(verdict):
     return verdict, '', 0 if verdict.startswith('accepted') else 1
 
 
+def put(folder, name, data):
+    """The path of a file with these bytes."""
+    name = os.path.join(folder, name)
+    with open(name, 'wb') as f:
+        f.write(data)
+    return name
+
+
 def verdicts(program, boards, folder):
     """What a host does with each board, lent from a file of its own."""
-    name = os.path.join(folder, 'board')
-    seen = []
-    for board in boards:
-        with open(name, 'wb') as f:
-            f.write(board)
-        seen.append(run_host(program, name))
-    return seen
+    return [run_host(program, put(folder, 'board', board)) for board in boards]
 
 
 def unreadable(program):
@@ -131,6 +135,44 @@ def unreadable_due():
     line = 'boardhost: cannot read %s\n'
     return [('', line % missing, 2), (2 * sound, line % missing + line % folder, 2),
             (sound + 'refused 1 0\n', '', 1), (sound, '', 0), ('refused 1 0\n', '', 1)]
+
+
+def hosts_finds():
+    """(find, what is due of a host): without those that 15 refuses, since a host lends a list that
+    fits."""
+    finds = []
+    for find in stored.finds():
+        answer = re.fullmatch(r'\S+ (.*), (rest|list) unchanged', find.line).group(1)
+        if not answer.startswith('refused 15'):
+            finds.append((find, (answer + '\n', '', 1 if answer.startswith('refused') else 0)))
+    return finds
+
+
+def asked(program, finds, folder):
+    """What a host does with the digests and the board of each find."""
+    return [run_host(program, '--digests', put(folder, 'digests', find.digests),
+                     put(folder, 'board', find.board)) for find in finds]
+
+
+def unasked(program, folder):
+    """What a host does with digests and boards of which some cannot be read, with a board on
+    standard input, with no digest, and with no file of digests."""
+    sound, tests = path('crates', 'boardcheck', 'stdin'), path('tests')
+    missing = path('tests', 'no_such_file')
+    first = hashlib.sha256(stored.content('crates', 'boardcheck', 'stdin')[54:514]).digest()
+    digests = put(folder, 'digests', bytes(32) + first)
+    with open(sound, 'rb') as board:
+        return [run_host(program, '--digests', *names, stdin=board) for names in (
+            (missing, sound), (tests, sound), (digests, missing, sound, tests, sound),
+            (digests, '/dev/null', sound), (digests,), ('/dev/null', sound), ())]
+
+
+def unasked_due():
+    line = 'boardhost: cannot read %s\n'
+    missing, tests = line % path('tests', 'no_such_file'), line % path('tests')
+    return [('', missing, 2), ('', tests, 2), (2 * 'found 0 1\n', missing + tests, 2),
+            ('refused 1 0\nfound 0 1\n', '', 1), ('found 0 1\n', '', 0), ('found\n', '', 0),
+            ('', 'usage: boardhost [--digests FILE] [BOARD...]\n', 2)]
 
 
 # ------------------------------------------------------------------ the functions
@@ -166,6 +208,36 @@ def reply(library, job):
         'unchanged' if same else 'changed')
 
 
+def find(library, board, digests, found, room):
+    return library.gooseoften_find(*lent(ctypes.c_uint8, list(board)),
+                                   *lent(ctypes.c_uint8, list(digests)), found, room)
+
+
+def found_by(library, case):
+    """The line of crates/find_cases/stdout for a find."""
+    before = [65535 - i for i in range(512)]
+    numbers = (ctypes.c_uint16 * 512)(*before)
+    code = find(library, case.board, case.digests, numbers, case.room)
+    count = 0 if code else len(case.digests) // 32
+    rest = 'unchanged' if numbers[count:] == before[count:] else 'changed'
+    if code:
+        return '%s refused %d %d, list %s' % (case.name, code % 256, code // 256, rest)
+    words = [case.name, 'found'] + [str(number) for number in numbers[:count]]
+    return '%s, rest %s' % (' '.join(words), rest)
+
+
+def null_finds(library, board):
+    """(code, list unchanged) where board, digests and list are null and empty, by turns and all."""
+    digest = hashlib.sha256(board[54:282]).digest()
+    seen = []
+    for lent_board, digests, room in ((b'', digest, 1), (board, b'', 1), (board, digest, 0),
+                                      (board, b'', 0), (b'', b'', 0)):
+        numbers = (ctypes.c_uint16 * 1)(7)
+        seen.append((find(library, lent_board, digests, numbers if room else None, room),
+                     numbers[0] == 7))
+    return seen
+
+
 def nulls(library, job):
     """(code, answer unchanged) where each slice in turn, and each from it on, is null and empty."""
     empty = [dict(label=b''), dict(rankings=b''), dict(draws=[]), dict(room=0),
@@ -181,42 +253,62 @@ def nulls(library, job):
 
 
 def stack(folder):
-    """The stack that README names, and whether a call takes no more."""
+    """Whether each call takes no more stack than README names."""
     text = stored.content('README.md').decode()
     most = [int(x.replace(',', '')) for x in re.search(
-        r'at most ([\d,]+) bytes of stack for a check and ([\d,]+) for a board written',
-        text).groups()]
+        r'at most ([\d,]+) bytes of stack for a check, ([\d,]+) for finding receipts and '
+        r'([\d,]+) for a board written', text).groups()]
     program = compile_c(('tests', 'stack.c'), os.path.join(folder, 'stack'))
-    words = subprocess.run([program], check=True, capture_output=True, text=True).stdout.split()
+    longest = max(stored.finds(), key=lambda case: len(case.board))
+    words = subprocess.run([program, put(folder, 'board', longest.board),
+                            put(folder, 'digests', longest.digests)], check=True,
+                           capture_output=True, text=True).stdout.split()
     print('stack: ' + ' '.join(words))
-    return [int(words[1]) <= most[0], int(words[3]) <= most[1]]
+    return [int(taken) <= named for taken, named in zip(words[1::2], most, strict=True)]
+
+
+def compare_hosts(comparison, hosts, folder):
+    boards, large, finds = stored.boards(), large_boards(), hosts_finds()
+    for name, program in hosts:
+        comparison.compare(name + ', stored boards',
+                           verdicts(program, [board.bytes for board in boards], folder),
+                           [due_of(board.verdict) for board in boards])
+        comparison.compare(name + ', boards beyond 65,536 bytes',
+                           verdicts(program, [board for board, _ in large], folder),
+                           [due_of(text) for _, text in large])
+        comparison.compare(name + ', files that cannot be read', unreadable(program),
+                           unreadable_due())
+        comparison.compare(name + ', stored finds',
+                           asked(program, [find for find, _ in finds], folder),
+                           [due for _, due in finds])
+        comparison.compare(name + ', digests and boards that cannot be read',
+                           unasked(program, folder), unasked_due())
+
+
+def compare_functions(comparison, library):
+    jobs, finds = stored.jobs(), stored.finds()
+    comparison.compare('gooseoften_write, stored jobs', [reply(library, job) for job in jobs],
+                       stored.content('crates', 'job_cases', 'stdout').decode().splitlines())
+    comparison.compare('gooseoften_find, stored finds', [found_by(library, case) for case in finds],
+                       [case.line for case in finds])
+    sound = next(job for job in jobs if job.name == 'two')
+    comparison.compare('null pointers of length 0', nulls(library, sound),
+                       [(5, True), (13, True), (14, True), (15, True), (13, True), (5, True),
+                        (1, True)])
+    board = next(board.bytes for board in stored.boards() if board.name == 'two')
+    comparison.compare('null pointers of length 0, receipts', null_finds(library, board),
+                       [(1, True), (0, True), (15, True), (0, True), (1, True)])
 
 
 def main(arguments):
     subprocess.run(['rt', 'staticlib', 'gooseoften'], cwd=ROOT, check=True,
                    stdout=subprocess.DEVNULL)
     comparison = Comparison()
-    boards, large = stored.boards(), large_boards()
     with tempfile.TemporaryDirectory() as folder:
-        for name, program in build_hosts(folder, arguments):
-            comparison.compare(name + ', stored boards',
-                               verdicts(program, [board.bytes for board in boards], folder),
-                               [due_of(board.verdict) for board in boards])
-            comparison.compare(name + ', boards beyond 65,536 bytes',
-                               verdicts(program, [board for board, _ in large], folder),
-                               [due_of(text) for _, text in large])
-            comparison.compare(name + ', files that cannot be read', unreadable(program),
-                               unreadable_due())
+        compare_hosts(comparison, build_hosts(folder, arguments), folder)
         if '--without-c' not in arguments:
-            library, jobs = load_library(folder), stored.jobs()
-            comparison.compare('gooseoften_write, stored jobs',
-                               [reply(library, job) for job in jobs],
-                               stored.content('crates', 'job_cases', 'stdout').decode().splitlines())
-            sound = next(job for job in jobs if job.name == 'two')
-            comparison.compare('null pointers of length 0', nulls(library, sound),
-                               [(5, True), (13, True), (14, True), (15, True), (13, True), (5, True),
-                                (1, True)])
-            comparison.compare('stack of a call', stack(folder), [True, True])
+            compare_functions(comparison, load_library(folder))
+            comparison.compare('stack of a call', stack(folder), [True] * 3)
     return comparison.status()
 
 

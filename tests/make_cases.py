@@ -1,12 +1,12 @@
 #!/usr/bin/env python3
-"""make_cases.py - makes the input and the expected output of the test programs `cases` (boards)
-and `job_cases` (writer jobs), with the reference in tests/reference:
+"""make_cases.py - makes the input and the expected output of the test programs `cases` (boards),
+`job_cases` (writer jobs) and `find_cases` (receipts), with the reference in tests/reference:
 
   python3 tests/make_cases.py [--check]
 
-It writes crates/cases/{stdin,stdout} and crates/job_cases/{stdin,stdout}, and prints what the cases
-cover.  Every run makes the same bytes.  No program under test has a part in it.  With --check it
-writes nothing, and ends with 1 where a stored file is not what it makes.
+It writes stdin and stdout of the three in crates/, and prints what the cases cover.  Every run makes
+the same bytes.  No program under test has a part in it.  With --check it writes nothing, and ends
+with 1 where a stored file is not what it makes.
 
 The input is a run of frames, to its end.  Every number is of 4 bytes, unsigned, high byte first; a
 piece is its length, a number, and then its bytes.
@@ -14,6 +14,7 @@ piece is its length, a number, and then its bytes.
   a board:  name (a piece, ASCII), board (a piece)
   a job:    name (a piece, ASCII), numbers n, K, p, q, g0, counter, length of the output, then label,
             rankings and draws (pieces; a draw is a number)
+  a find:   name (a piece, ASCII), board and digests (pieces), number of places of the lent list
 
 The program prints a line for each frame:
 
@@ -21,9 +22,12 @@ The program prints a line for each frame:
   NAME refused NUMBER RECORD
   NAME written LENGTH SHA256 rounds R out A winner W, rest unchanged
   NAME refused NUMBER WHICH, output unchanged
+  NAME found A B C, rest unchanged                       a number or 0 for each digest
+  NAME refused NUMBER RECORD, list unchanged
 
-Before a job, byte i of the program's output buffer is i modulo 251; the last words of a line say
-whether what the writer should have left alone is still so (`changed` if not).
+Before a job, byte i of the program's output buffer is i modulo 251; before a lookup, each of its 512
+numbers is 65535, and the first of them are lent.  The last words of a line say whether what should
+have been left alone is still so (`changed` if not).
 """
 import hashlib
 import sys
@@ -32,6 +36,7 @@ from stored import Comparison, content, path
 
 import boardref as ref
 import board_cases
+import find_cases
 import job_cases
 from boardref import be
 
@@ -69,6 +74,18 @@ def job_case(name, job, expect):
     return frame, '%s %s\n' % (name, line)
 
 
+def find_case(name, case, expect):
+    board, digests, room = case
+    answer = ref.find(board, digests, room)
+    assert answer == expect and room <= find_cases.PLACES, (name, expect, answer)
+    if answer[0] == 'refused':
+        line = 'refused %d %d, list unchanged' % answer[1:]
+    else:
+        line = ' '.join(['found'] + [str(number) for number in answer[1]]) + ', rest unchanged'
+    frame = piece(name.encode()) + piece(board) + piece(digests) + be(room, 4)
+    return frame, '%s %s\n' % (name, line)
+
+
 def make(cases, one):
     """The bytes of stdin and of stdout."""
     made = [one(name, case, expect) for name, case, expect, _ in cases.items]
@@ -88,7 +105,8 @@ def store(crate, cases, files):
 def main(check):
     comparison = Comparison()
     for crate, cases, one in (('cases', board_cases.boards(), board_case),
-                              ('job_cases', job_cases.jobs(), job_case)):
+                              ('job_cases', job_cases.jobs(), job_case),
+                              ('find_cases', find_cases.finds(), find_case)):
         files = list(zip(('stdin', 'stdout'), make(cases, one)))
         if check:
             comparison.compare(crate + ', stored files', [content('crates', crate, name) == data

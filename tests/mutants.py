@@ -1,11 +1,12 @@
 #!/usr/bin/env python3
-"""mutants.py - are the stored boards of the test program `cases` sharp enough?
+"""mutants.py - are the stored cases of the test programs `cases` and `find_cases` sharp enough?
 
   python3 tests/mutants.py
 
-Each mutant is the reference's checker with one rule spoilt by a change of its text.  Prints for each
-the smallest stored board on which it answers otherwise; one that answers like the reference on all
-of them is reported, and the exit status is 1.  Takes a minute."""
+Each mutant is the reference's checker, or its finder of receipts, with one rule spoilt by a change of
+its text.  Prints for each the smallest stored case on which it answers otherwise; one that answers
+like the reference on all of them is reported, and the exit status is 1.  Takes a minute."""
+import collections
 import os
 import sys
 import types
@@ -15,9 +16,11 @@ from stored import HERE
 
 # the modules of the reference, each after those that it imports
 MODULES = ('board.sizes', 'board.group', 'board.proofs', 'board.count', 'board.plain_count',
-           'board.reading', 'board.check', 'board.write', 'boardref')
+           'board.reading', 'board.check', 'board.find', 'board.write', 'boardref')
 
-MUTANTS = [
+Question = collections.namedtuple('Question', 'case function arguments')
+
+CHECKERS = [
     ('element: no order test', "return 1 <= x <= p - 1 and pow(x, q, p) == 1",
      "return 1 <= x <= p - 1"),
     ('element: no range test', "return 1 <= x <= p - 1 and pow(x, q, p) == 1",
@@ -115,12 +118,12 @@ MUTANTS = [
     ('column proofs left', "        if not proof_holds(group, line_claim(group, column), column_proofs[j]):", "        if False:"),
     ('row not over g1', "return [[(over(group, b, group.g1), y)]]", "return [[(b, y)]]"),
     ('shift proofs waved through', "    if not proof_holds(group, shift_claim(group, previous, matrix, a), proof):", "    if False:"),
-    ('6 not tested in BA', "    if reading.number(2) != k:\n        reading.refuse(6)\n    # \"same", "    reading.number(2)\n    # \"same"),
+    ('6 not tested in BA', "due | 6\"\n    if reading.number(2) != k:\n        reading.refuse(6)\n", "due | 6\"\n    reading.number(2)\n"),
     ('6 not tested in SH', "    if reading.number(2) != k:\n        reading.refuse(6)\n    matrix = read_matrix(reading, group, R, n)",
      "    reading.number(2)\n    matrix = read_matrix(reading, group, R, n)"),
     ('6 not tested in RT', "    if reading.number(1) != standing.m:\n        reading.refuse(6)\n", "    reading.number(1)\n"),
-    ('6 by low byte', "    if reading.number(2) != k:\n        reading.refuse(6)\n    # \"same",
-     "    if reading.number(2) % 256 != k % 256:\n        reading.refuse(6)\n    # \"same"),
+    ('6 by low byte', "due | 6\"\n    if reading.number(2) != k:",
+     "due | 6\"\n    if reading.number(2) % 256 != k % 256:"),
     ('8 before the rest of the walk', "    row_proofs = [read_proof",
      "    for i in range(n):\n        for j in range(n):\n            if not proof_holds(group, entry_claim(group, matrix[i][j]), entry_proofs[i][j]):\n                reading.refuse(8)\n    row_proofs = [read_proof"),
     ('12 not tested', "    if reading.left() > 0:\n        reading.refuse(12)\n", ""),
@@ -156,6 +159,84 @@ MUTANTS = [
     ('g1 to the power p-1 over 2', "return pow(number, (p - 1) // q, p)", "return pow(number, 2, p)"),
 ]
 
+# That the lowest of several numbers is found no stored case can tell: see find_cases.py.
+FINDERS = [
+    ('16: any length', "if len(digests) % DIGEST != 0 or len", "if len"),
+    ('16: 501 let in', "len(digests) > MOST * DIGEST", "len(digests) > (MOST + 1) * DIGEST"),
+    ('16: 500 shut out', "len(digests) > MOST * DIGEST", "len(digests) >= MOST * DIGEST"),
+    ('16: no digest shut out', "if len(digests) % DIGEST != 0", "if not digests or len(digests) % DIGEST != 0"),
+    ('16: order not tested', "if digests[at:at + DIGEST] < digests[at - DIGEST:at]:", "if False:"),
+    ('16: equal ones shut out', "if digests[at:at + DIGEST] < digests", "if digests[at:at + DIGEST] <= digests"),
+    ('16: first byte alone', "if digests[at:at + DIGEST] < digests[at - DIGEST:at]:", "if digests[at] < digests[at - DIGEST]:"),
+    ('16: first 8 bytes alone', "if digests[at:at + DIGEST] < digests[at - DIGEST:at]:",
+     "if digests[at:at + 8] < digests[at - DIGEST:at - DIGEST + 8]:"),
+    ('16: all but the last byte', "if digests[at:at + DIGEST] < digests[at - DIGEST:at]:",
+     "if digests[at:at + DIGEST - 1] < digests[at - DIGEST:at - 1]:"),
+    ('16: from the last byte on', "if digests[at:at + DIGEST] < digests[at - DIGEST:at]:",
+     "if digests[at:at + DIGEST][::-1] < digests[at - DIGEST:at][::-1]:"),
+    ('16: by any byte', "if digests[at:at + DIGEST] < digests[at - DIGEST:at]:",
+     "if any(x < y for x, y in zip(digests[at:at + DIGEST], digests[at - DIGEST:at])):"),
+    ('16: bytes with a sign', "if digests[at:at + DIGEST] < digests[at - DIGEST:at]:",
+     "if bytes(x ^ 128 for x in digests[at:at + DIGEST]) < bytes(x ^ 128 for x in digests[at - DIGEST:at]):"),
+    ('16: first pair left', "for at in range(DIGEST, len(digests), DIGEST):", "for at in range(2 * DIGEST, len(digests), DIGEST):"),
+    ('16: last pair left', "for at in range(DIGEST, len(digests), DIGEST):", "for at in range(DIGEST, len(digests) - DIGEST, DIGEST):"),
+    ('16: first pair alone', "for at in range(DIGEST, len(digests), DIGEST):", "for at in range(DIGEST, min(len(digests), 2 * DIGEST), DIGEST):"),
+    ('16: held against the first', "digests[at - DIGEST:at]:", "digests[:DIGEST]:"),
+    ('15 before 16', "    if not digests_hold(digests):",
+     "    if room < len(digests) // DIGEST:\n        return ('refused', 15, 0)\n    if not digests_hold(digests):"),
+    ('the board before 16', "    if not digests_hold(digests):\n",
+     "    try:\n        receipts(board)\n    except Refused as refused:\n        return ('refused', refused.number, refused.record)\n    if not digests_hold(digests):\n"),
+    ('the board before 15', "    if room < len(digests) // DIGEST:\n",
+     "    try:\n        receipts(board)\n    except Refused as refused:\n        return ('refused', refused.number, refused.record)\n    if room < len(digests) // DIGEST:\n"),
+    ('15 not tested', "if room < len(digests) // DIGEST:", "if False:"),
+    ('15 for a list that fits', "if room < len(digests) // DIGEST:", "if room <= len(digests) // DIGEST:"),
+    ('15 for places to spare', "if room < len(digests) // DIGEST:", "if room != len(digests) // DIGEST:"),
+    ('no digest, no walk', "        held = receipts(board)\n", "        held = receipts(board) if digests else []\n"),
+    ('the walk ends once all are found', "        held = receipts(board)\n", "        held = early(receipts, board, digests)\n"),
+    ('last ballot left', "for k in range(1, K + 1):\n        start", "for k in range(1, K):\n        start"),
+    ('a ballot more', "for k in range(1, K + 1):\n        start", "for k in range(1, K + 2):\n        start"),
+    ('1 not tested in BA', "    reading.open(b'BA', ba_length(n))\n", "    reading.open(b'BA', min(4, reading.left()))\n"),
+    ('2 not tested in BA', "    reading.open(b'BA', ba_length(n))\n",
+     "    reading.open(reading.board[reading.next:reading.next + 2], ba_length(n))\n"),
+    ('6 not tested in BA', "due | 6\"\n    if reading.number(2) != k:", "due | 6\"\n    if reading.number(2) < 0:"),
+    ('6 by low byte', "due | 6\"\n    if reading.number(2) != k:", "due | 6\"\n    if reading.number(2) % 256 != k % 256:"),
+    ('6 by high byte', "due | 6\"\n    if reading.number(2) != k:", "due | 6\"\n    if reading.number(2) // 256 != k // 256:"),
+    ('6 before 2', "    reading.open(b'BA', ba_length(n))\n",
+     "    if reading.left() >= ba_length(n) and reading.board[reading.next + 2:reading.next + 4] != bytes([k // 256, k % 256]):\n        reading.refuse(6)\n    reading.open(b'BA', ba_length(n))\n"),
+    ('2 before 1', "        if self.left() < length:\n            self.refuse(1)\n",
+     "        if self.left() >= 2 and self.board[self.next:self.next + 2] != mark:\n            self.refuse(2)\n        if self.left() < length:\n            self.refuse(1)\n"),
+    ('2 not tested in HD', "reading.open(b'HD', HD_LENGTH)", "reading.open(reading.board[:2], HD_LENGTH)"),
+    ('3 not tested', "    if not sizes_hold(n, K):\n        reading", "    if False:\n        reading"),
+    ('4 not tested', "    if not group_holds(n, K, p, q):\n        reading", "    if False:\n        reading"),
+    ('5 not tested of g0', "    if not g0_holds(p, q, g0):\n        reading", "    if False:\n        reading"),
+    ('5 not tested of g1', "if g1 != make_g1(p, q, g0, counter, label) or not g1_holds(g0, g1):", "if False:"),
+    ('a sheet is due behind the last ballot', "    return held\n", "    reading.open(b'RT', 4 + 6 * n)\n    return held\n"),
+    ('a sheet has room behind the last ballot', "    return held\n",
+     "    if reading.left() < 4 + 6 * n:\n        reading.refuse(1)\n    return held\n"),
+    ('nothing may remain', "    return held\n", "    if reading.left() > 0:\n        reading.refuse(12)\n    return held\n"),
+    ('the whole board checked', "        held = receipts(board)\n",
+     "        from .check import check_or_raise\n        check_or_raise(board)\n        held = receipts(board)\n"),
+    ('fields tested', "        reading.next = start + ba_length(n)\n",
+     "        from .check import read_matrix\n        read_matrix(reading, _, n, n)\n        reading.next = start + ba_length(n)\n"),
+    ('proofs tested', "        open_ballot(reading, n, k)\n        reading.next",
+     "        from .check import read_ballot\n        read_ballot(reading, _, n, k)\n        reading.record -= 1\n        reading.next"),
+    ('digest without the mark', "board[start:reading.next]", "board[start + 2:reading.next]"),
+    ('digest without the frame', "board[start:reading.next]", "board[start + 4:reading.next]"),
+    ('digest without the last byte', "board[start:reading.next]", "board[start:reading.next - 1]"),
+    ('digest from the header on', "board[start:reading.next]", "board[:reading.next]"),
+    ('digest of the first ballot', "board[start:reading.next]", "board[54:54 + ba_length(n)]"),
+    ('first 16 bytes of a digest', "if other == digest:", "if other[:16] == digest[:16]:"),
+    ('last 16 bytes of a digest', "if other == digest:", "if other[16:] == digest[16:]:"),
+    ('ballots numbered from 0', "enumerate(held, 1)", "enumerate(held)"),
+    ('low byte of a number', "            return number\n", "            return number % 256\n"),
+    ('1 for none', "            return number\n    return 0\n", "            return number\n    return 1\n"),
+    ('first of equal ones alone', "[number_of(digests[at:at + DIGEST], held)\n",
+     "[number_of(digests[at:at + DIGEST], held) * (digests[at:at + DIGEST] != digests[at - DIGEST:at])\n"),
+    ('last of equal ones alone', "[number_of(digests[at:at + DIGEST], held)\n",
+     "[number_of(digests[at:at + DIGEST], held) * (digests[at:at + DIGEST] != digests[at + DIGEST:at + 2 * DIGEST])\n"),
+    ('records numbered from 1', "self.record = 0", "self.record = 1"),
+]
+
 
 def checked(claim, branch, lines, rows):
     """The statements of a branch, without those of the last rows of a shift."""
@@ -164,6 +245,20 @@ def checked(claim, branch, lines, rows):
         return statements
     n = (len(branch) - 2) // (len(claim) - 1)
     return statements[:max(2, len(branch) - rows * n)]
+
+
+def early(receipts, board, digests):
+    """The receipts of the first ballots that have all the digests, where there are some; else all."""
+    wanted = {digests[at:at + 32] for at in range(0, len(digests), 32)}
+    K = int.from_bytes(board[3:5], 'big')
+    for k in range(1, K) if wanted and K <= 1000 else ():
+        try:
+            held = receipts(board[:3] + k.to_bytes(2, 'big') + board[5:])
+        except Exception:
+            break
+        if wanted <= set(held):
+            return held
+    return receipts(board)
 
 
 def text_of(name):
@@ -176,39 +271,56 @@ def load(texts):
     for name, text in texts.items():
         module = types.ModuleType(name)
         module.__package__ = name.rpartition('.')[0]
-        module.checked = checked
+        module.checked, module.early = checked, early
         sys.modules[name] = module                    # the modules after it import this one
         exec(compile(text, name, 'exec'), module.__dict__)
     return module
 
 
-def judged(reference):
-    """(name, board, answer) of each stored board, the smallest first."""
-    return [(board.name, board.bytes, reference.check(board.bytes))
-            for board in sorted(stored.boards(), key=lambda board: len(board.bytes))]
+def boards():
+    return [Question(board.name, 'check', (board.bytes,)) for board in stored.boards()]
 
 
-def answer(mutant, board):
+def finds():
+    return [Question(find.name, 'find', (find.board, find.digests, find.room))
+            for find in stored.finds()]
+
+
+def size(question):
+    return sum(len(x) for x in question.arguments if isinstance(x, bytes))
+
+
+def answer(reference, question):
     try:
-        return mutant.check(board)
+        return getattr(reference, question.function)(*question.arguments)
     except Exception as error:                        # a crash is a difference too
         return repr(error)
 
 
-def main():
-    texts = {name: text_of(name) for name in MODULES}
-    boards = judged(load(texts))
-    survivors = []
-    for name, old, new in MUTANTS:
+def survivors(texts, mutants, questions):
+    """The mutants that no question tells apart, the smallest asked first."""
+    reference = load(texts)
+    asked = [(question, answer(reference, question)) for question in sorted(questions, key=size)]
+    left = []
+    for name, old, new in mutants:
         found = sum(text.count(old) for text in texts.values())
         assert found == 1, (name, found)
         mutant = load({module: text.replace(old, new) for module, text in texts.items()})
-        caught = next((case for case, board, right in boards if answer(mutant, board) != right), None)
+        caught = next((q.case for q, right in asked if answer(mutant, q) != right), None)
         print('%-45s %s' % (name, caught or 'SURVIVES'), flush=True)
-        if caught is None:
-            survivors.append(name)
-    print('%d mutants, %d survive' % (len(MUTANTS), len(survivors)))
-    return 1 if survivors else 0
+        left += [name] if caught is None else []
+    return left
+
+
+def main():
+    texts = {name: text_of(name) for name in MODULES}
+    left = []
+    for what, mutants, questions in (('checkers', CHECKERS, boards()),
+                                     ('finders', FINDERS, finds())):
+        some = survivors(texts, mutants, questions)
+        print('%s: %d mutants, %d survive' % (what, len(mutants), len(some)))
+        left += some
+    return 1 if left else 0
 
 
 if __name__ == '__main__':

@@ -1,7 +1,12 @@
 /* How much stack a call of the library takes: it runs on a stack of its own, filled beforehand, of
- * which the part that was written to is counted. It writes a board of 8 processes in 7 rounds, checks
- * it, and prints the bytes of each call. */
+ * which the part that was written to is counted.
+ *
+ *   stack BOARD DIGESTS
+ *
+ * It writes a board of 8 processes in 7 rounds, checks it, finds the digests of a file on the board of
+ * another, and prints the bytes of each call. */
 #define _GNU_SOURCE
+#include <stdbool.h>
 #include <stdio.h>
 #include <stdlib.h>
 #include <string.h>
@@ -9,16 +14,22 @@
 
 #include "gooseoften.h"
 
-enum { ROOM = 1 << 20, FILL = 0xa5, N = 8, K = 2, DRAWS = 10000, BOARD = 1 << 16 };
+enum { ROOM = 1 << 20, FILL = 0xa5, N = 8, K = 2, DRAWS = 10000, BOARD = 1 << 18, DIGESTS = 500 };
 
-static uint8_t board[BOARD];
-static size_t length, code;
+static uint8_t board[BOARD], digests[DIGESTS * 32];
+static size_t length, digests_length, code;
+static uint16_t found[DIGESTS];
 static size_t answer[GOOSEOFTEN_WRITE_LENGTH];
 static ucontext_t caller, callee;
 
 static void check(void)
 {
     code = gooseoften_check(board, length, answer);
+}
+
+static void find(void)
+{
+    code = gooseoften_find(board, length, digests, digests_length, found, DIGESTS);
 }
 
 static void write_board(void)
@@ -61,18 +72,42 @@ static size_t stack_of(void (*call)(void))
     return ROOM - untouched;
 }
 
-int main(void)
+/* How many bytes a file has, and where they go. */
+static size_t read_file(const char *name, uint8_t *bytes, size_t room)
 {
+    FILE *file = fopen(name, "rb");
+    if (file == NULL) {
+        perror(name);
+        exit(2);
+    }
+    size_t count = fread(bytes, 1, room, file);
+    fclose(file);
+    return count;
+}
+
+/* Ends the program where a call was refused. */
+static void see(const char *what, bool as_due)
+{
+    if (!as_due) {
+        fprintf(stderr, "stack: %s: %zu\n", what, code);
+        exit(1);
+    }
+}
+
+int main(int count, char **names)
+{
+    if (count != 3) {
+        fputs("usage: stack BOARD DIGESTS\n", stderr);
+        return 2;
+    }
     size_t writes = stack_of(write_board);
-    if (code != 0 || answer[GOOSEOFTEN_ROUNDS] != N - 1) {
-        fprintf(stderr, "stack: the board was not written: %zu\n", code);
-        return 1;
-    }
+    see("the board was not written", code == 0 && answer[GOOSEOFTEN_ROUNDS] == N - 1);
     size_t checks = stack_of(check);
-    if (code != 0) {
-        fprintf(stderr, "stack: the board was not accepted: %zu\n", code);
-        return 1;
-    }
-    printf("check %zu write %zu\n", checks, writes);
+    see("the board was not accepted", code == 0);
+    length = read_file(names[1], board, sizeof board);
+    digests_length = read_file(names[2], digests, sizeof digests);
+    size_t finds = stack_of(find);
+    see("the board was not walked", code == 0);
+    printf("check %zu find %zu write %zu\n", checks, finds, writes);
     return 0;
 }

@@ -1,4 +1,5 @@
-"""What the test scripts share: the paths, the stored boards and jobs, and how results are compared."""
+"""What the test scripts share: the paths, the stored boards, jobs and finds, and how results are
+compared."""
 import collections
 import os
 import sys
@@ -12,6 +13,7 @@ LIMIT = 65536                                                # of boardcheck's b
 
 Board = collections.namedtuple('Board', 'name bytes verdict')
 Job = collections.namedtuple('Job', 'name n K p q g0 counter room label rankings draws')
+Find = collections.namedtuple('Find', 'name board digests room line')
 
 
 def path(*parts):
@@ -79,6 +81,19 @@ def jobs():
         numbers = [frames.number() for _ in range(7)]
         stored.append(Job(name, *numbers, frames.piece(), frames.piece(),
                           words_of(frames.piece())))
+    return stored
+
+
+def finds():
+    """Each stored find: a board, the digests looked for, the places of the lent list, and the line
+    that is due."""
+    frames = Frames(content('crates', 'find_cases', 'stdin'))
+    stored = []
+    for line in content('crates', 'find_cases', 'stdout').decode().splitlines():
+        stored.append(Find(frames.piece().decode(), frames.piece(), frames.piece(),
+                           frames.number(), line))
+        assert line.startswith(stored[-1].name + ' '), line
+    assert not frames.more()
     return stored
 
 

@@ -361,3 +361,15 @@ size_t plain_check(const uint8_t *board, size_t length, size_t *answer)
     }
     return rounds_fault(&opened, answer);
 }
+
+/* ---- Receipts. */
+
+void plain_digests(const uint8_t *records, size_t count, size_t size, uint8_t *digests)
+{
+    for (size_t i = 0; i < count; i++) {
+        struct hasher h;
+        hash_start(&h);
+        hash_update(&h, records + i * size, size);
+        hash_finish(&h, digests + i * 32);
+    }
+}

@@ -1,4 +1,4 @@
-/* A plain C checker of boards, to measure the library against. */
+/* A plain C checker of boards and its SHA-256, to measure the library against. */
 #ifndef PLAIN_H
 #define PLAIN_H
 
@@ -31,5 +31,8 @@ enum {
  * answer, refused: the record's number, then nine zeros.
  */
 size_t plain_check(const uint8_t *board, size_t length, size_t *answer);
+
+/* The SHA-256 digests of `count` records of `size` bytes, one after another. */
+void plain_digests(const uint8_t *records, size_t count, size_t size, uint8_t *digests);
 
 #endif

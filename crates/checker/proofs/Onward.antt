@@ -19,7 +19,7 @@ use Rattle.count.proofs.Picks.{gone-is, listed-many}
 use Rattle.header.specs.declared.Head.{Head}
 use Rattle.header.specs.declared.HeaderRead.the-variants.{Board, Refused}
 use Rattle.header.specs.Heads.{headOf, HeaderKnown, HeaderReads}
-use Rattle.round.proofs.FirstFault.{positive}
+use Rattle.rules.proofs.RefusalNumbers.{positive}
 use Rattle.checker.specs.Models.{Narrower}
 
 -- ---- the standing count

@@ -4,7 +4,7 @@ ghost use mathlib.Core.Path.{_≡_};
 ghost use Prim.Native.Nat.{_+_, _≤_, _<_};
 ghost use lib.ListN.{length, getD};
 ghost use Rattle.rules.specs.Bytes.{number2};
-ghost use Rattle.rules.specs.Records.{RT, hasMark, sheetLength};
+ghost use Rattle.rules.specs.Records.{BA, SH, RT, hasMark, ballotLength, shiftLength, sheetLength};
 ghost use Rattle.frames.specs.Framed.{Begun, Framed};
 
 // What some tests of a record find.
@@ -55,7 +55,7 @@ fn begins(board: &[u8], at: usize, size: usize, mark: [u8; 2]) -> Fault
 }
 
 // A BA or SH record: its length, mark and number.
-pub fn ballot_frame(board: &[u8], at: usize, size: usize, mark: [u8; 2], due: usize) -> Fault
+fn numbered(board: &[u8], at: usize, size: usize, mark: [u8; 2], due: usize) -> Fault
     requires { ⌜ (at ≤ length (now board)) × (4 ≤ size) ⌝ }
     ensures { λ r. ⌜ Framed (now (board .entry)) at size mark (number2 (now (board .entry)) (at + 2)) due r ⌝ }
 {
@@ -67,6 +67,20 @@ pub fn ballot_frame(board: &[u8], at: usize, size: usize, mark: [u8; 2], due: us
         return Fault::Refused(Refusal::Number);
     }
     Fault::Sound
+}
+
+pub fn ballot_frame(board: &[u8], at: usize, n: usize, due: usize) -> Fault
+    requires { ⌜ (at ≤ length (now board)) × (n ≤ 8) ⌝ }
+    ensures { λ r. ⌜ Framed (now (board .entry)) at (ballotLength n) BA (number2 (now (board .entry)) (at + 2)) due r ⌝ }
+{
+    numbered(board, at, layout::ballot_length(n), layout::BA, due)
+}
+
+pub fn shift_frame(board: &[u8], at: usize, n: usize, rows: usize, due: usize) -> Fault
+    requires { ⌜ (at ≤ length (now board)) × (n ≤ 8) × (rows ≤ 8) ⌝ }
+    ensures { λ r. ⌜ Framed (now (board .entry)) at (shiftLength n rows) SH (number2 (now (board .entry)) (at + 2)) due r ⌝ }
+{
+    numbered(board, at, layout::shift_length(n, rows), layout::SH, due)
 }
 
 // An RT record: its length, mark and round.

@@ -2,6 +2,7 @@
 use Prim.Native.Nat.{ℕ, _+_, _*_}
 use mathlib.Core.List.{List, [], _∷_, _++_}
 use Rattle.rules.specs.Check.{Verdict, accepted, refused}
+use Rattle.rules.specs.Receipts.{Finding, numbersFound, findRefused}
 use Rattle.rules.specs.Answers.{withZeros}
 use Rattle.jobs.specs.Job.{Job}
 use Rattle.jobs.specs.Write.{Outcome, boardWritten, jobRefused}
@@ -39,3 +40,9 @@ writeCode (jobRefused number ranking) = refusalCode number ranking
 abbrev pub writeAnswer : Outcome → (answer : List ℕ) → List ℕ
 writeAnswer (boardWritten long rounds order winner) answer = written (resultNumbers rounds winner (withZeros order) ++ (long ∷ [])) answer
 writeAnswer (jobRefused number ranking) answer = answer
+
+-- ---- find: 0, or the refusal
+
+abbrev pub findCode : Finding → ℕ
+findCode (numbersFound numbers) = 0
+findCode (findRefused number place) = refusalCode number place

@@ -3,6 +3,8 @@ use Prim.Native.Nat.{ℕ}
 use mathlib.Core.List.{List, [], _∷_, _++_}
 use Rattle.rules.specs.declared.Answer.{Answer}
 use Rattle.rules.specs.declared.Answer.the-variants as A
+use Rattle.rules.specs.declared.Found.{Found}
+use Rattle.rules.specs.declared.Found.the-variants as F
 use Rattle.jobs.specs.declared.Reply.{Reply}
 use Rattle.jobs.specs.declared.Reply.the-variants as W
 use Rattle.output.specs.Written.{written}
@@ -16,6 +18,10 @@ recordNamed (A.Refused refusal place) = place
 abbrev pub rankingNamed : Reply → ℕ
 rankingNamed (W.Board long rounds winner) = 0
 rankingNamed (W.Refused refusal ranking) = ranking
+
+abbrev pub foundNamed : Found → ℕ
+foundNamed F.Listed = 0
+foundNamed (F.Refused refusal place) = place
 
 -- the order stands in an array of 8 with its zeros
 abbrev pub checkPut : Answer → (order answer : List ℕ) → List ℕ

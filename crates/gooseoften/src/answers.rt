@@ -1,16 +1,17 @@
 // The numbers of an answer, put into the slice that a program in C lends for it.
 use jobs::Reply;
 use rules::Answer;
+use rules::Found;
 use rules::Refusal;
 ghost use mathlib.Core.Path.{_≡_};
-ghost use Prim.Native.Nat.{_≤_};
-ghost use mathlib.Core.List.{[], _∷_};
+ghost use Prim.Native.Nat.{ℕ, _≤_};
+ghost use mathlib.Core.List.{List, [], _∷_};
 ghost use lib.ListN.{length};
-ghost use Rattle.rules.specs.Answers.{refusalNumber, answerOf};
+ghost use Rattle.rules.specs.Answers.{refusalNumber, answerOf, findingOf};
 ghost use Rattle.jobs.specs.Replies.{replyOf};
 ghost use Rattle.output.specs.Written.{written};
-ghost use Rattle.gooseoften.specs.Answers.{refusalCode, resultNumbers, checkCode, writeCode};
-ghost use Rattle.gooseoften.specs.Puts.{recordNamed, rankingNamed, checkPut, replyPut};
+ghost use Rattle.gooseoften.specs.Answers.{refusalCode, resultNumbers, checkCode, writeCode, findCode};
+ghost use Rattle.gooseoften.specs.Puts.{recordNamed, rankingNamed, foundNamed, checkPut, replyPut};
 
 fn put_one(answer: &mut [usize], x: usize)
     requires { ⌜ 1 ≤ length (now answer) ⌝ }
@@ -86,5 +87,16 @@ pub fn put_reply(answer: &mut [usize], reply: Reply, order: [u8; 8]) -> usize
             0
         }
         Reply::Refused { refusal, ranking } => code(refusal, ranking),
+    }
+}
+
+// What find answered: its code, whatever the numbers in the list.
+pub fn found_code(answer: Found) -> usize
+    requires { ⌜ foundNamed answer ≤ 7008 ⌝ }
+    ensures { λ r. ⌜ ((numbers : List ℕ) → r ≡ findCode (findingOf answer numbers)) ⌝ }
+{
+    match answer {
+        Found::Listed => 0,
+        Found::Refused { refusal, record } => code(refusal, record),
     }
 }

@@ -1,12 +1,13 @@
-// The box's library: check and write for programs in C, with numbers, slices and arrays of fixed length alone. include/gooseoften.h declares both.
+// The box's library: check, write and find for programs in C, with numbers, slices and arrays of fixed length alone. include/gooseoften.h declares them.
 use group::Element;
 use validity::Job;
 ghost use mathlib.Core.Path.{_≡_};
 ghost use lib.ListN.{length};
 ghost use Rattle.sha256.specs.Message.{sha256};
 ghost use Rattle.rules.specs.Check.{checkBoard};
+ghost use Rattle.rules.specs.Receipts.{findOutcome, listAfter};
 ghost use Rattle.jobs.specs.Write.{writeOutcome, writeOutput};
-ghost use Rattle.gooseoften.specs.Answers.{job, checkCode, checkAnswer, writeCode, writeAnswer};
+ghost use Rattle.gooseoften.specs.Answers.{job, checkCode, checkAnswer, writeCode, writeAnswer, findCode};
 
 mod answers;
 
@@ -53,4 +54,14 @@ pub extern "C" fn gooseoften_write(
     let reply = written.reply;
     let order = written.order;
     answers::put_reply(answer, reply, order)
+}
+
+// The ballot numbers of digests, written to the front of found.
+#[no_mangle]
+pub extern "C" fn gooseoften_find(board: &[u8], digests: &[u8], found: &mut [u16]) -> usize
+    ensures { λ r. ⌜ r ≡ findCode (findOutcome sha256 (now (board .entry)) (now (digests .entry)) (length (now (found .entry)))) ⌝ }
+    ensures { λ _. ⌜ now (found .exit) ≡ listAfter (findOutcome sha256 (now (board .entry)) (now (digests .entry)) (length (now (found .entry)))) (now (found .entry)) ⌝ }
+{
+    let answer = receipts::find(board, digests, found);
+    answers::found_code(answer)
 }

@@ -26,14 +26,6 @@ fn digest_of(out: &[u8], size: usize) -> [u8; 32]
     sha256::digest(&out[0..size])
 }
 
-fn print_kept(kept: bool) {
-    if kept {
-        print::text(b"unchanged\n");
-    } else {
-        print::text(b"changed\n");
-    }
-}
-
 fn print_reply(reply: Reply, order: [u8; 8], out: &[u8]) {
     match reply {
         Reply::Board {
@@ -48,13 +40,13 @@ fn print_reply(reply: Reply, order: [u8; 8], out: &[u8]) {
             print::text(b" ");
             print::result(rounds, order, winner);
             print::text(b", rest ");
-            print_kept(buffers::kept(out, length));
+            print::kept(buffers::kept(out, length));
         }
         Reply::Refused { refusal, ranking } => {
             print::text(b" ");
             print::refused(refusal, ranking);
             print::text(b", output ");
-            print_kept(buffers::kept(out, 0));
+            print::kept(buffers::kept(out, 0));
         }
     }
 }

@@ -1,11 +1,11 @@
 -- Where a job stops: the writer's tests, its outcome, and what the output then holds.
-use Prim.Native.Nat.{ℕ, zero, suc, _*_}
+use Prim.Native.Nat.{ℕ, _*_}
 use mathlib.Core.Path.{_≡_}
-use mathlib.Core.Bool.{Bool, true, cond, _&&_}
+use mathlib.Core.Bool.{Bool, true, cond, not, _&&_}
 use mathlib.Core.List.{List, [], _∷_, _++_}
 use lib.Dec.{leb, ltb, eqb}
 use lib.ListN.{length, drop}
-use Rattle.numbers.specs.Below.{allBelow}
+use Rattle.numbers.specs.Below.{allBelow, firstBelow}
 use Rattle.rules.specs.Group.{orders, generators}
 use Rattle.rules.specs.Count.{isRanking}
 use Rattle.rules.specs.Tests.{firstFault, _orElse_}
@@ -53,9 +53,8 @@ jobFault hash job room =
     ∷ [])
 
 -- the first of the first k rankings, from 1, that lacks a process; 0 where none does
-unfoldable pub firstBad : Job → (k : ℕ) → ℕ
-firstBad job zero = 0
-firstBad job (suc k) = cond (eqb (firstBad job k) 0) (cond (isRanking (job .n) (rankingOf job k)) 0 (suc k)) (firstBad job k)
+abbrev pub firstBad : Job → (k : ℕ) → ℕ
+firstBad job k = firstBelow k (λ i. not (isRanking (job .n) (rankingOf job i)))
 
 -- "With 13 goes the first bad ranking from 1, or 0 for a wrong length; with the others 0."
 unfoldable pub badRanking : Job → (number : ℕ) → ℕ

@@ -9,6 +9,13 @@ pub fn wide(x: u8) -> usize
     x as usize
 }
 
+// A half word as an index.
+pub fn wide16(x: u16) -> usize
+    ensures { λ r. ⌜ r ≡ x ⌝ }
+{
+    x as usize
+}
+
 // A word as an index.
 pub fn wide32(x: u32) -> usize
     ensures { λ r. ⌜ r ≡ x ⌝ }
@@ -44,4 +51,12 @@ pub fn low16(x: usize) -> u32
     ensures { λ r. ⌜ r ≡ x ⌝ }
 {
     x as u32
+}
+
+// An index as a half word.
+pub fn half(x: usize) -> u16
+    requires { ⌜ x < 65536 ⌝ }
+    ensures { λ r. ⌜ r ≡ x ⌝ }
+{
+    x as u16
 }

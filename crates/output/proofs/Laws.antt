@@ -5,7 +5,7 @@ use mathlib.Core.List.{List, [], _∷_, _++_, append-assoc, append-nil}
 use native.Mathlib.Nat.{le-refl, zero-add}
 use native.Mathlib.Numerals.{add-one}
 use native.Mathlib.Omega.{arith}
-use lib.ListN.{length, getD, set, take, drop, length-append, length-drop, length-take, take-append-drop, drop-of-length-le}
+use lib.ListN.{length, getD, set, take, drop, length-append, length-drop, length-take, length-set, take-append-drop, drop-of-length-le}
 use lib.Seq.{sets, sets-eq, take-suc, drop-cons, set-at, append-snoc, take-at, drop-at, take-all, drop-drop, length-take-le}
 use borrow.Rule.Slice.PartMut.{midOf, putMid}
 use Rattle.numbers.specs.Below.{concatBelow}
@@ -104,11 +104,27 @@ pub block-more : (f : ℕ → List ℕ) (w i a : ℕ) (o l x : List ℕ) → ((j
 block-more f w i a o l x wide ea el ex =
     more (concatBelow i f) (f i) o l x a (length-blocks i w f wide ∙ sym ea) el ex ∙ rw (blocks-more f i)
 
--- one more byte is copied
-pub copy-more : (s o : List ℕ) (i : ℕ) → i < length s → length s ≤ length o → set (written (take i s) o) i (getD s i 0) ≡ written (take (i + 1) s) o
+-- ---- a list copied to the front, one element after another: none yet, one more, and all
+copy-more : (s o : List ℕ) (i : ℕ) → i < length s → length s ≤ length o → set (written (take i s) o) i (getD s i 0) ≡ written (take (i + 1) s) o
 unfolding written
 copy-more s o i h k =
     let n : length (take i s) ≡ i = length-take-le i s (omega arith) in
     let m : length (take i s ++ (getD s i 0 ∷ [])) ≡ suc i = simp length-append (omega arith) in
     let b : i < length o = omega arith in
     rw (add-one, take-suc s i 0 h, m, n, drop-cons o i 0 b, append-snoc) (set-at (take i s) (getD o i 0) (drop (suc i) o) (getD s i 0) i n)
+
+pub record Copied (s o out : List ℕ) (i : ℕ) : Type 0 where
+  pub few : i ≤ length s
+  pub long : length out ≡ length o
+  pub begun : out ≡ written (take i s) o
+
+module _ (s o : List ℕ) where
+  pub copied-none : Copied s o o 0
+  copied-none = record { few = omega arith; long = refl; begun = none o }
+
+  module _ {out : List ℕ} {i : ℕ} (w : Copied s o out i) where
+    pub copied-more : i < length s → length s ≤ length o → Copied s o (set out i (getD s i 0)) (i + 1)
+    copied-more l b = record { few = omega arith; long = length-set out i _ ∙ w .long; begun = rw (w .begun) (copy-more s o i l b) }
+
+    pub copied-all : length s ≤ i → out ≡ written s o
+    copied-all l = w .begun ∙ rw (take-all i s l)

@@ -1,9 +1,9 @@
 -- The counts of a round, ranking by ranking.
-use Prim.Native.Nat.{ℕ, zero, suc, _+_, _-_, _≤_, _<_}
+use Prim.Native.Nat.{ℕ, suc, _+_, _-_, _≤_, _<_}
 use mathlib.Core.Path.{_≡_, refl, sym, ap, _∙_}
 use mathlib.Core.Bool.{Bool, true, false, cond, not}
 use mathlib.Core.List.{List, [], _∷_, _++_}
-use native.Mathlib.Nat.{add-zero, zero-add, suc-add, add-assoc}
+use native.Mathlib.Nat.{add-zero, add-assoc}
 use native.Mathlib.Numerals.{add-one}
 use native.Mathlib.Omega.{arith}
 use borrow.Author.Tests.{eq-eqb, ne-eqb, eqb-true, eqb-false, lt-leb, le-leb}
@@ -15,8 +15,6 @@ use Rattle.rules.specs.Bytes.{part}
 use Rattle.numbers.specs.Below.{allBelow}
 use Rattle.rules.specs.Count.{member, isRanking, stillIn, firstIn, votesFor, countsOf, table}
 use Rattle.rules.proofs.Lists.{length-table, table-at}
-use Rattle.jobs.specs.Job.{Job, rankingOf}
-use Rattle.jobs.specs.Write.{firstBad}
 
 module _ (s : List ℕ) (at n i : ℕ) (fits : at + n ≤ length s) where
   cut : i < n → drop i (part s at n) ≡ getD s (at + i) 0 ∷ drop (suc i) (part s at n)
@@ -63,25 +61,6 @@ module _ (s : List ℕ) (at n : ℕ) (fits : at + n ≤ length s) where
   pub ranking-is : allBelow n (λ i. member (suc i) (part s at n)) ≡ isRanking n (part s at n)
   unfolding isRanking
   ranking-is = rw long
-
--- the first bad ranking
-module _ (job : Job) where
-  pub bad-none : firstBad job 0 ≡ 0
-  unfolding firstBad
-  bad-none = refl
-
-  pub bad-passed : (k : ℕ) → firstBad job k ≡ 0 → isRanking (job .n) (rankingOf job k) ≡ true → firstBad job (k + 1) ≡ 0
-  unfolding firstBad
-  bad-passed k e h = rw (add-one, e, h)
-
-  pub bad-found : (k : ℕ) → firstBad job k ≡ 0 → isRanking (job .n) (rankingOf job k) ≡ false → firstBad job (k + 1) ≡ k + 1
-  unfolding firstBad
-  bad-found k e h = rw (add-one, e, h)
-
-  pub bad-stays : (k d v : ℕ) → firstBad job k ≡ suc v → firstBad job (d + k) ≡ suc v
-  unfolding firstBad
-  bad-stays k zero v e = rw zero-add e
-  bad-stays k (suc d) v e = rw (suc-add, bad-stays k d v e, ne-eqb (suc v) 0 (λ z. omega arith))
 
 -- one vote more
 pub vote-one : (counts : List ℕ) (c : ℕ) → length counts ≡ 8 → 0 < c → c ≤ 8 → (i : ℕ) → i < 8 →

@@ -77,7 +77,7 @@ pub fn read_ballot(board: &[u8], h: Head, at: usize, number: usize) -> Passed
     let n = h.n;
     let group = h.setup.group;
     let size = layout::ballot_length(n);
-    let framed = frames::ballot_frame(board, at, size, layout::BA, number);
+    let framed = frames::ballot_frame(board, at, n, number);
     if let Fault::Refused(why) = framed {
         return Passed::Refused(why);
     }

@@ -62,7 +62,7 @@ pub fn read_shift(
     let n = h.n;
     let group = h.setup.group;
     let size = layout::shift_length(n, rows);
-    let framed = frames::ballot_frame(board, at, size, layout::SH, number);
+    let framed = frames::shift_frame(board, at, n, rows, number);
     if let Fault::Refused(why) = framed {
         return Passed::Refused(why);
     }

@@ -1,5 +1,4 @@
 -- Laws that the proofs of `round`, and its users, cite.
-pub mod FirstFault
 pub mod Beginnings
 pub mod RecordAt
 pub mod Walked

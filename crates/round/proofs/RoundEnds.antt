@@ -25,7 +25,7 @@ use Rattle.sheets.specs.Sheets.{Stepped, SheetReads}
 use Rattle.sheets.proofs.SheetTable.{sheet-fits}
 use Rattle.round.specs.declared.RoundOutcome.the-variants.{Open, Closed, Refused}
 use Rattle.round.specs.Outcomes.{RoundComes}
-use Rattle.round.proofs.FirstFault.{positive}
+use Rattle.rules.proofs.RefusalNumbers.{positive}
 
 -- from what the ballots' records and the sheet come to
 module _ (s : List ℕ) (h : Head) (c : Count) (m a : ℕ) where

@@ -26,7 +26,7 @@ use Rattle.sheets.proofs.Products.{tallied-fewer}
 use Rattle.round.specs.declared.Round.{Round}
 use Rattle.round.specs.Rounds.{Begins}
 use Rattle.round.specs.Outcomes.{Searched}
-use Rattle.round.proofs.FirstFault.{positive}
+use Rattle.rules.proofs.RefusalNumbers.{positive}
 use Rattle.round.proofs.Beginnings.{Earlier, earlier-first, earlier-next}
 
 -- a record holds the first row of its matrix

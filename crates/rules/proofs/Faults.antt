@@ -3,7 +3,7 @@ use Prim.Native.Nat.{ℕ, zero, suc, _<_}
 use mathlib.Core.Path.{_≡_, refl, sym, ap, _∙_}
 use mathlib.Core.Logic.{_⊎_, inl, inr, ⊎-elim}
 use mathlib.Core.Bool.{Bool, true, false}
-use mathlib.Core.List.{List, [], _∷_}
+use mathlib.Core.List.{List, [], _∷_, _++_}
 use mathlib.Core.Option.{Option, none, some}
 use native.Mathlib.Nat.{not-suc-le-zero, eq-or-lt-of-le, le-of-suc-le-suc}
 use native.Mathlib.Omega.{arith}
@@ -95,3 +95,13 @@ fault-none = refl
 pub fault-is : (P : ℕ → Type 0) (t : Test) (ts : List Test) → (t .holds ≡ false → P (t .refusal)) → P (firstFault ts) → P (firstFault (t ∷ ts))
 unfolding firstFault
 fault-is P t ts here later = by-cases (t .holds) (λ e. rw e later) (λ e. rw e (here e))
+
+-- the fault of the first tests is that of all
+pub fault-front : (ts us : List Test) → (firstFault ts ≡ 0 → ⊥) → firstFault (ts ++ us) ≡ firstFault ts
+unfolding firstFault
+fault-front [] us bad = absurd (bad refl)
+fault-front (t ∷ ts) us bad = go (t .holds) refl (fault-front ts us)
+  where
+    go : (b : Bool) → t .holds ≡ b → ((firstFault ts ≡ 0 → ⊥) → firstFault (ts ++ us) ≡ firstFault ts) → firstFault (t ∷ (ts ++ us)) ≡ firstFault (t ∷ ts)
+    go true e ih = rw e (ih (λ z. bad (rw e z)))
+    go false e ih = rw e

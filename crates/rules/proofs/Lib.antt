@@ -7,3 +7,5 @@ pub mod Orders
 pub mod Elements
 pub mod Places
 pub mod Positions
+pub mod RefusalNumbers
+pub mod Digests

@@ -3,11 +3,14 @@ use Prim.Native.Nat.{ℕ, _-_}
 use mathlib.Core.List.{List, _++_}
 use lib.ListN.{length, take, replicate}
 use Rattle.rules.specs.Check.{Verdict, accepted, refused}
+use Rattle.rules.specs.Receipts.{Finding, numbersFound, findRefused}
 use Rattle.rules.specs.declared.Refusal.{Refusal}
 use Rattle.rules.specs.declared.Refusal.the-variants as R
 use Rattle.rules.specs.declared.Answer.{Answer}
 use Rattle.rules.specs.declared.Answer.the-variants as A
 use Rattle.rules.specs.declared.Checked.{Checked}
+use Rattle.rules.specs.declared.Found.{Found}
+use Rattle.rules.specs.declared.Found.the-variants as F
 
 abbrev pub refusalNumber : Refusal → ℕ
 refusalNumber R.Length = 1
@@ -25,6 +28,7 @@ refusalNumber R.Remain = 12
 refusalNumber R.Rankings = 13
 refusalNumber R.Draws = 14
 refusalNumber R.Output = 15
+refusalNumber R.Digests = 16
 
 -- the checker's answer; of the array of 8 the first rounds - 1 are the order
 abbrev pub answerOf : Answer → (order : List ℕ) → Verdict
@@ -42,3 +46,8 @@ withZeros order = order ++ replicate (8 - length order) 0
 abbrev pub orderOf : Verdict → List ℕ
 orderOf (accepted rounds order winner) = withZeros order
 orderOf (refused refusal number) = replicate 8 0
+
+-- the answer to digests; the numbers stand at the front of the lent list
+abbrev pub findingOf : Found → (numbers : List ℕ) → Finding
+findingOf F.Listed numbers = numbersFound numbers
+findingOf (F.Refused refusal number) numbers = findRefused (refusalNumber refusal) number

@@ -1,4 +1,5 @@
--- What 01 says of a board, its checker and the count: the definitions alone. Text in quotation marks is 01's.
+-- What 01 says of a board, its checker and the count, and what 02 asks of the ballots' receipts: the definitions alone. Text in quotation marks is
+-- 01's but where a file says otherwise.
 -- Rounds, ballots, rows, columns and branches are counted from 0; processes from 1.
 pub mod Bytes
 pub mod Group
@@ -12,5 +13,6 @@ pub mod Ballot
 pub mod Shift
 pub mod Sheet
 pub mod Check
+pub mod Receipts
 pub mod Answers
 pub mod Openings

@@ -1,8 +1,8 @@
-// The checker's answer, and the kinds of boards. The rules themselves are definitions, in specs/; specs/Answers.antt gives the number and the values of each case.
+// The answers of the checker and of the search for receipts, and the kinds of boards. The rules themselves are definitions, in specs/; specs/Answers.antt gives the number and the values of each case.
 ghost use mathlib.Core.Path.{_≡_};
 ghost use Rattle.rules.specs.Answers.{refusalNumber};
 
-// Why a board or a job is refused.
+// Why a board, a job or a list of digests is refused.
 pub enum Refusal {
     // 1: bytes left are fewer than the record's length.
     Length,
@@ -32,8 +32,10 @@ pub enum Refusal {
     Rankings,
     // 14: draws are too few, or one is outside 1 to q - 1.
     Draws,
-    // 15: the output is shorter than the board.
+    // 15: the output is shorter than what is to be written.
     Output,
+    // 16: the digests are more than 500, out of order, or no multiple of 32 bytes.
+    Digests,
 }
 
 // The number of a refusal in the table.
@@ -56,6 +58,7 @@ pub fn refusal_number(r: Refusal) -> usize
         Refusal::Rankings => 13,
         Refusal::Draws => 14,
         Refusal::Output => 15,
+        Refusal::Digests => 16,
     }
 }
 
@@ -76,4 +79,10 @@ pub enum Answer {
 pub struct Checked {
     pub answer: Answer,
     pub order: [u8; 8],
+}
+
+// The answer to digests: each one's ballot number is in the lent list; or why the list is as it was.
+pub enum Found {
+    Listed,
+    Refused { refusal: Refusal, record: usize },
 }

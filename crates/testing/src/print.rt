@@ -52,3 +52,12 @@ pub fn digest(bytes: [u8; 32]) {
         io::print_hex(STDOUT_FILENO, bytes[i] as u64, 2);
     }
 }
+
+// The end of a line: whether what was to stay is as it was.
+pub fn kept(kept: bool) {
+    if kept {
+        text(b"unchanged\n");
+    } else {
+        text(b"changed\n");
+    }
+}

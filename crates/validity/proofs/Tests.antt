@@ -1,14 +1,16 @@
 -- The tests of a job in turn, up to the rankings, and the refusal that each names.
-use Prim.Native.Nat.{ℕ, zero, suc, _*_, _<_}
-use mathlib.Core.Path.{_≡_, refl, sym, _∙_}
-use mathlib.Core.Bool.{Bool, true, false, _&&_}
+use Prim.Native.Nat.{ℕ, suc, _*_, _<_}
+use mathlib.Core.Path.{_≡_, sym, _∙_}
+use mathlib.Core.Bool.{Bool, true, false, not, _&&_}
+use mathlib.Core.Logic.{inl, inr}
 use mathlib.Core.List.{List}
 use native.Mathlib.Omega.{arith}
-use borrow.Author.Tests.{eq-eqb, ne-eqb, eqb-true, eqb-false}
+use borrow.Author.Tests.{eq-eqb, ne-eqb, not-true, not-false}
 use lib.Dec.{eqb}
 use lib.ListN.{length}
 use Rattle.numbers.specs.Below.{allBelow}
-use Rattle.numbers.proofs.Tests.{by-cases}
+use Rattle.numbers.proofs.Search.{first-is}
+use Rattle.numbers.proofs.Tests.{all-true, all-fails}
 use Rattle.sha256.specs.Message.{sha256}
 use Rattle.group.specs.Elements.{Parameters}
 use Rattle.rules.specs.Group.{orders, generators}
@@ -32,30 +34,16 @@ module _ (job : Job) where
   allRanked k = allBelow k (λ k. isRanking (job .n) (rankingOf job k))
 
   all-ranked : (k : ℕ) → firstBad job k ≡ 0 → allRanked k ≡ true
-  unfolding firstBad allBelow
-  all-ranked zero h = refl
-  all-ranked (suc k) h =
-      by-cases (eqb (firstBad job k) 0)
-      (λ e.
-      by-cases (isRanking (job .n) (rankingOf job k))
-      (λ r. rw (all-ranked k (eqb-true (firstBad job k) 0 e), r))
-      (λ r. absurd (omega (arith, rw (e, r) at h))))
-      (λ e. absurd (eqb-false (firstBad job k) 0 e (rw e at h)))
+  all-ranked k h = elim (first-is k (λ i. not (isRanking (job .n) (rankingOf job i)))) [
+    | inl z ↦ all-true k _ (λ i l. not-false _ (z .1 i l))
+    | inr o ↦ absurd (omega (arith, o .1))
+  ]
 
   not-ranked : (k : ℕ) → 0 < firstBad job k → allRanked k ≡ false
-  unfolding firstBad allBelow
-  not-ranked zero h = absurd (omega arith)
-  not-ranked (suc k) h =
-      by-cases (eqb (firstBad job k) 0)
-      (λ e.
-      by-cases (isRanking (job .n) (rankingOf job k))
-      (λ r. absurd (omega (arith, rw (e, r) at h)))
-      (λ r. rw r (and-false (allRanked k))))
-      (λ e. rw (not-ranked k (omega (arith, rw e at h))))
-    where
-      and-false : (a : Bool) → (a && false) ≡ false
-      and-false true = refl
-      and-false false = refl
+  not-ranked k h = elim (first-is k (λ i. not (isRanking (job .n) (rankingOf job i)))) [
+    | inl z ↦ absurd (omega (arith, z .0))
+    | inr o ↦ all-fails k (o .0) _ (o .2) (not-true _ (o .3))
+  ]
 
   pub well-ranked : length (job .rankings) ≡ job .K * job .n → firstBad job (job .K) ≡ 0 → rankingsGood job ≡ true
   well-ranked l b = rw (eq-eqb (length (job .rankings)) (job .K * job .n) l) (all-ranked (job .K) b)

@@ -86,7 +86,7 @@ module _ (hash : List ℕ → List ℕ) (job : Job) (f : Fine hash job) where
   after-g1 =
       stands-right (72 ∷ 68 ∷ job .n ∷ bytes2 (job .K) ++ bytes4 (job .p) ++ bytes4 (job .q) ++ bytes4 (job .g0) ++ (job .counter ∷ []) ++ bytes4 (g .g1)) _ refl (stands-whole s)
 
-  header-same : header s ≡ headerOf hash job
+  pub header-same : header s ≡ headerOf hash job
   unfolding header
   header-same =
       let r = fields in
@@ -106,7 +106,7 @@ module _ (hash : List ℕ → List ℕ) (job : Job) (f : Fine hash job) where
         generated = rw (header-same, fields .6) (f .generated);
       }
 
-  begun : Reach hash job s (job .n) start 0 [] 0
+  pub begun : Reach hash job s (job .n) start 0 [] 0
   unfolding roundAt listAt
   begun =
       record {

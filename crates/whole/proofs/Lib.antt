@@ -1,4 +1,4 @@
--- The proofs: the second demand, both halves of the third, the refusals and the starred cases.
+-- The proofs: the second demand, both halves of the third, the refusals, the receipts and the starred cases.
 pub mod Rules
 pub mod Verdicts
 pub mod Sound
@@ -7,4 +7,5 @@ pub mod FirstFails
 pub mod SecondDemand
 pub mod ThirdDemand
 pub mod Refusals
+pub mod Receipts
 pub mod Worked

@@ -1,30 +1,33 @@
 -- The refusals of the checker and of the writer name what is there.
-use Prim.Native.Nat.{ℕ, zero, suc, _+_, _*_, _-_, _≤_, _<_}
+use Prim.Native.Nat.{ℕ, zero, suc, _+_, _*_, _-_, _≤_}
 use mathlib.Core.Path.{_≡_, refl, sym, _∙_}
-use mathlib.Core.Bool.{true, false, true≢false, and-eq-true-iff}
+use mathlib.Core.Bool.{Bool, true, false, not, true≢false, and-eq-true-iff}
 use mathlib.Core.List.{List, [], _∷_, _++_, append-assoc}
-use mathlib.Core.Logic.{_⊎_, inl, inr}
+use mathlib.Core.Logic.{inl, inr}
+use mathlib.Core.Option.{Option, none, some}
 use native.Mathlib.Nat.{mul-le-mul-right}
 use native.Mathlib.Omega.{arith}
 use lib.Dec.{eqb}
 use lib.ListN.{length, length-append}
-use borrow.Author.Tests.{leb-true, eqb-true, eqb-false, eq-eqb, ne-eqb}
+use borrow.Author.Tests.{leb-true, eqb-true, eqb-false, eq-eqb, ne-eqb, not-true, not-false}
 use Rattle.rules.specs.Count.{countsOf, countFrom, plainCount, member, Standing, start, next, closes, isRanking}
 use Rattle.jobs.specs.Job.{Job, rankingOf}
 use Rattle.jobs.specs.Write.{rankingsGood, jobFault, firstBad, badRanking, jobRefused, writeOutcome}
-use Rattle.numbers.proofs.Search.{extend}
-use Rattle.rules.specs.Tests.{Test, firstFault}
+use Rattle.numbers.proofs.Search.{first-is}
+use Rattle.rules.specs.Tests.{Test, firstFault, faultBelow}
 use Rattle.rules.specs.Header.{ranked, sizes, Header, header, headerFault}
 use Rattle.rules.specs.Ballot.{ballotFault}
 use Rattle.rules.specs.Shift.{shiftFault}
 use Rattle.rules.specs.Sheet.{sheetFields, sheetFault}
-use Rattle.rules.specs.Check.{roundsRead, refused, recordFault, roundSheetFault, checkBoard}
-use Rattle.whole.specs.Refusals.{BoardRefusal, JobRefusal, Refusals}
+use Rattle.rules.specs.Check.{roundsRead, recordNumber, refused, recordFault, roundSheetFault, checkBoard}
+use Rattle.rules.specs.Receipts.{listFault, frameFault, findRefused, findInBallots, findOnBoard, findOutcome}
+use Rattle.whole.specs.Refusals.{BoardRefusal, JobRefusal, FindRefusal, Refusals}
 use Rattle.numbers.proofs.Tests.{by-cases, and-true, all-true}
 use Rattle.jobs.proofs.FineJob.{valid, no-refusal}
-use Rattle.rules.proofs.Faults.{fault-none, fault-is}
+use Rattle.rules.proofs.Faults.{fault-none, fault-is, Faulty, first-faulty}
 use Rattle.rules.proofs.Leaving.{not-last}
 use Rattle.rules.proofs.Positions.{number-is}
+use Rattle.whole.proofs.Rules.{header-rules}
 use Rattle.whole.proofs.Sound.Accepted.{header-good}
 use Rattle.whole.specs.SecondDemand.{roundPlace, outBefore, dueAt, sheetNumber, FirstBroken, in-header, in-record, in-sheet, at-end}
 use Rattle.whole.proofs.SecondDemand.{Passed, Open, passed-of, passed-fewer, of-open, next-number, early, sheet-fits, second-demand}
@@ -114,22 +117,8 @@ module _ (hash : List ℕ → List ℕ) (s : List ℕ) where
 abbrev Numbers : List ℕ
 Numbers = 3 ∷ 4 ∷ 5 ∷ 13 ∷ 14 ∷ 15 ∷ []
 
--- no ranking among the first k is bad, or one is the first
-first-bad : (job : Job) (k : ℕ) →
-    ((firstBad job k ≡ 0) × ((i : ℕ) → i < k → isRanking (job .n) (rankingOf job i) ≡ true))
-    ⊎ ((i : ℕ) × (firstBad job k ≡ suc i) × (i < k) × (isRanking (job .n) (rankingOf job i) ≡ false) × ((j : ℕ) → j < i → isRanking (job .n) (rankingOf job j) ≡ true))
-unfolding firstBad
-first-bad job zero = inl (refl, λ i l. absurd (omega arith))
-first-bad job (suc k) = elim (first-bad job k) [
-  | inl z ↦
-      by-cases (isRanking (job .n) (rankingOf job k))
-      (λ e. inl (rw (z .0, e), extend (λ (i : ℕ). isRanking (job .n) (rankingOf job i) ≡ true) k (z .1) e))
-      (λ e. inr (k, rw (z .0, e), omega arith, e, z .1))
-  | inr o ↦ inr (o .0, rw (o .1, ne-eqb (suc (o .0)) 0 (λ z. omega arith)), omega (arith, o .2), o .3, o .4)
-]
-
 low-bad : (job : Job) → firstBad job (job .K) ≤ job .K
-low-bad job = elim (first-bad job (job .K)) [ inl z ↦ omega (arith, z .0) | inr o ↦ omega (arith, o .1, o .2) ]
+low-bad job = elim (first-is (job .K) (λ i. not (isRanking (job .n) (rankingOf job i)))) [ inl z ↦ omega (arith, z .0) | inr o ↦ omega (arith, o .1, o .2) ]
 
 job-number : (hash : List ℕ → List ℕ) (job : Job) (room : ℕ) → member (jobFault hash job room) (0 ∷ Numbers) ≡ true
 unfolding jobFault member
@@ -165,7 +154,10 @@ job-named hash job room ne =
       others = λ z. rw (ne-eqb fault 13 z);
       wrong-length = λ z. rw (ne-eqb (length (job .rankings)) (job .K * job .n) z) (by-cases (eqb fault 13) (λ e. rw e) (λ e. rw e));
       first-bad = λ z l. rw (eq-eqb fault 13 z, eq-eqb (length (job .rankings)) (job .K * job .n) l)
-          (elim (first-bad job (job .K)) [ inl w ↦ absurd (rankings-bad hash job room (and-true (eq-eqb _ _ l) (all-true (job .K) _ (w .1))) z) | inr o ↦ o ]);
+          (elim (first-is (job .K) (λ i. not (isRanking (job .n) (rankingOf job i)))) [
+            | inl w ↦ absurd (rankings-bad hash job room (and-true (eq-eqb _ _ l) (all-true (job .K) _ (λ i b. not-false _ (w .1 i b)))) z)
+            | inr o ↦ (o .0, o .1, o .2, not-true _ (o .3), λ i b. not-false _ (o .4 i b))
+          ]);
       most = by-cases (eqb fault 13)
           (λ e. by-cases (eqb (length (job .rankings)) (job .K * job .n))
           (λ l. rw (e, l) (omega (arith, low-bad job, few-rankings hash job room (eqb-true _ _ e)))) (λ l. rw (e, l) (omega arith)))
@@ -183,6 +175,62 @@ job-refusal hash job room number w e =
     let same-number : fault ≡ number = cc in
     let same-ranking : badRanking job fault ≡ w = cc in
     rw (← same-number, ← same-ranking) (job-named hash job room (eqb-false fault 0 z)))
+
+-- ---- receipts
+abbrev Finds : List ℕ
+Finds = 16 ∷ 15 ∷ 1 ∷ 2 ∷ 3 ∷ 4 ∷ 5 ∷ 6 ∷ []
+
+-- a number of a list's refusals, or of a board's
+abbrev OfFinds : ℕ → Type 0
+OfFinds x = member x (0 ∷ Finds) ≡ true
+
+of-finds : (t : Test) (ts : List Test) → OfFinds (t .refusal) → OfFinds (firstFault ts) → OfFinds (firstFault (t ∷ ts))
+of-finds t ts l = fault-is OfFinds t ts (λ _. l)
+
+find-named : (s : List ℕ) (refusal number : ℕ) → OfFinds refusal → (refusal ≡ 0 → ⊥) → (15 ≤ refusal → number ≡ 0) → number ≤ header s .K → number ≤ 1000 → FindRefusal s refusal number
+unfolding member
+find-named s refusal number of ne lists within most = record { numbered = rw (ne-eqb refusal 0 ne) at of; lists = lists; within = within; most = most }
+
+module _ (hash : List ℕ → List ℕ) (s digests : List ℕ) (room : ℕ) where
+  of-list : OfFinds (listFault digests room)
+  unfolding listFault member
+  of-list = of-finds _ _ refl (of-finds _ _ refl (rw fault-none))
+
+  of-header : OfFinds (headerFault hash ranked s)
+  unfolding headerFault member
+  of-header = of-finds _ _ refl (of-finds _ _ refl (of-finds _ _ refl (of-finds _ _ refl (of-finds _ _ refl (rw fault-none)))))
+
+  of-frame : (k : ℕ) → OfFinds (frameFault s k)
+  unfolding member
+  of-frame k = of-finds _ _ refl (of-finds _ _ refl (of-finds _ _ refl (rw fault-none)))
+
+  low-frame : (k : ℕ) → Low (frameFault s k)
+  low-frame k = low _ _ (omega arith) (low _ _ (omega arith) (low _ _ (omega arith) low-none))
+
+  -- a ballot's record is refused
+  in-ballots : headerFault hash ranked s ≡ 0 → (w : ℕ × ℕ) → Faulty (header s .K) (frameFault s) w → FindRefusal s (w .1) (recordNumber s (header s) 0 (w .0))
+  in-ballots z w f =
+      let few = header-good hash s (header-rules hash ranked s .0 z) .thousand in
+      let n = number-is s (header s) 0 (w .0) in
+      find-named s _ _ (rw (f .fault) (of-frame (w .0))) (λ e. f .some-fault (sym (f .fault) ∙ e)) (λ l. absurd (omega (arith, f .fault, low-frame (w .0)))) (omega (arith, f .below))
+      (omega (arith, f .below))
+
+  pub find-refusal : (refusal number : ℕ) → findOutcome hash s digests room ≡ findRefused refusal number → FindRefusal s refusal number
+  unfolding findOutcome findOnBoard findInBallots
+  find-refusal refusal number e = go (eqb (listFault digests room) 0) (eqb (headerFault hash ranked s) 0) (faultBelow (header s .K) (frameFault s)) refl refl refl
+    where
+      same : (r k : ℕ) → findRefused r k ≡ findRefused refusal number → FindRefusal s r k → FindRefusal s refusal number
+      same r k q w = let a : r ≡ refusal = cc in let b : k ≡ number = cc in rw (← a, ← b) w
+
+      go : (l h : Bool) (v : Option (ℕ × ℕ)) → eqb (listFault digests room) 0 ≡ l → eqb (headerFault hash ranked s) 0 ≡ h → faultBelow (header s .K) (frameFault s) ≡ v → FindRefusal s refusal number
+      go false h v el eh ev = same (listFault digests room) 0 (rw (el, findOutcome) at e) (find-named s _ _ of-list (eqb-false _ 0 el) (λ _. refl) (omega arith) (omega arith))
+      go true false v el eh ev =
+          same (headerFault hash ranked s) 0 (rw (el, findOutcome, eh, findOnBoard) at e) (find-named s _ _ of-header (eqb-false _ 0 eh) (λ _. refl) (omega arith) (omega arith))
+      go true true (some w) el eh ev =
+          same (w .1) (recordNumber s (header s) 0 (w .0)) (rw (el, findOutcome, eh, findOnBoard, ev, findInBallots) at e)
+          (in-ballots (eqb-true _ 0 eh) w (first-faulty (header s .K) (frameFault s) w ev))
+      go true true none el eh ev =
+          let q = rw (el, findOutcome, eh, findOnBoard, ev, findInBallots) at e in let z : _≡_ {A = ℕ} 0 1 = cc in absurd (omega arith)
 
 -- ---- the plain count
 module _ (n : ℕ) (rankings : List (List ℕ)) where
@@ -212,6 +260,7 @@ refusals hash =
     record {
       of-boards = board-refusal hash;
       of-jobs = job-refusal hash;
+      of-finds = find-refusal hash;
       none = λ job room. (valid hash job room, λ w. no-refusal hash job room (w .0) (w .1));
       of-counts = count-limit;
     }

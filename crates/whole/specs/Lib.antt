@@ -1,6 +1,7 @@
--- What is claimed of whole boards: the second and the third demand, what the refusals name, and the starred cases.
+-- What is claimed of whole boards: the second and the third demand, what the refusals name, the receipts found, and the starred cases.
 pub mod Rules
 pub mod SecondDemand
 pub mod ThirdDemand
 pub mod Refusals
+pub mod Receipts
 pub mod Worked

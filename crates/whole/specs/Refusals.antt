@@ -8,6 +8,7 @@ use lib.ListN.{length}
 use Rattle.rules.specs.Count.{member, isRanking, start, countFrom, plainCount}
 use Rattle.rules.specs.Header.{header}
 use Rattle.rules.specs.Check.{roundsRead, refused, checkBoard}
+use Rattle.rules.specs.Receipts.{findRefused, findOutcome}
 use Rattle.jobs.specs.Job.{Job, rankingOf, boardLength}
 use Rattle.jobs.specs.Write.{jobFault, jobRefused, writeOutcome, Valid}
 
@@ -33,9 +34,17 @@ pub record JobRefusal (job : Job) (number ranking : ℕ) : Type 0 where
       × ((i : ℕ) → i < k → isRanking (job .n) (rankingOf job i) ≡ true)
   pub most : ranking ≤ 1000
 
+-- of finding receipts: 16 and 15 concern the lists and name 0, 1 to 6 a record up to the last BA
+pub record FindRefusal (s : List ℕ) (refusal number : ℕ) : Type 0 where
+  pub numbered : member refusal (16 ∷ 15 ∷ 1 ∷ 2 ∷ 3 ∷ 4 ∷ 5 ∷ 6 ∷ []) ≡ true
+  pub lists : 15 ≤ refusal → number ≡ 0
+  pub within : number ≤ header s .K
+  pub most : number ≤ 1000
+
 pub record Refusals (hash : List ℕ → List ℕ) : Type 0 where
   pub of-boards : (s : List ℕ) (refusal number : ℕ) → checkBoard hash s ≡ refused refusal number → BoardRefusal s refusal number
   pub of-jobs : (job : Job) (room number ranking : ℕ) → writeOutcome hash job room ≡ jobRefused number ranking → JobRefusal job number ranking
+  pub of-finds : (s digests : List ℕ) (room refusal number : ℕ) → findOutcome hash s digests room ≡ findRefused refusal number → FindRefusal s refusal number
   -- a job is written just where it is valid and its board fits
   pub none : (job : Job) (room : ℕ) → (jobFault hash job room ≡ 0) ↔ (Valid hash job × (boardLength job ≤ room))
   -- the plain count of 2 or more processes ends by itself: more fuel changes nothing

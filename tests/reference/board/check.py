@@ -32,6 +32,14 @@ def read_header(reading):
     return n, K, Group(p, q, g0, g1, label)
 
 
+def open_ballot(reading, n, k):
+    """The frame of a ballot: what stands ahead of its pairs."""
+    reading.open(b'BA', ba_length(n))
+    # "BA, SH, RT: number or round not the one due | 6"
+    if reading.number(2) != k:
+        reading.refuse(6)
+
+
 def read_matrix(reading, group, rows, n):
     """"n^2 pairs (b 4, Y 4) by rows" / "R x n pairs" """
     matrix = []
@@ -62,10 +70,7 @@ def read_proof(reading, group, branches, statements):
 
 def read_ballot(reading, group, n, k):
     """"BA | number 2; n^2 pairs (b 4, Y 4) by rows; n^2 entry, n row, n column proofs" """
-    reading.open(b'BA', ba_length(n))
-    # "BA, SH, RT: number or round not the one due | 6"
-    if reading.number(2) != k:
-        reading.refuse(6)
+    open_ballot(reading, n, k)
     # "same, fields left to right: ... | 7": the whole record is walked before any proof
     matrix = read_matrix(reading, group, n, n)
     entry_proofs = [[read_proof(reading, group, 2, 1) for _ in range(n)] for _ in range(n)]

@@ -129,12 +129,15 @@ module _ (hash : List ℕ → List ℕ) (job : Job) where
             stands-moved (sym (place-is s h m (job .K)))
             (by-cases closing (λ e. rw e (rw e at tail-stands)) (λ e. rw e (stands-left (jobSheet job g m leaving C) after (rw e at tail-stands))))
 
-        round-records : (k : ℕ) → k < job .K → RecordRules hash s h a m k × SameMatrix (job .n - m) (job .n) (matrix s h m k) (jobMatrix job g (st .gone) m k)
-        round-records k l =
-            record-kept (st .gone) before a m k (r .prior) in-round (r .count .early) l
-            (stands-moved (sym (place-is s h m k))
+        -- each ballot's record, where it is due
+        pub record-stands : (k : ℕ) → k < job .K → Stands s (place s h m k) (recordBytes hash job g before a m k)
+        record-stands k l =
+            stands-moved (sym (place-is s h m k))
             (stands-block (job .K) (recordLength (job .n) m) _ (λ k _. length-record hash job g before a m k)
-            (stands-left (concatBelow (job .K) (recordBytes hash job g before a m)) tail split) k l))
+            (stands-left (concatBelow (job .K) (recordBytes hash job g before a m)) tail split) k l)
+
+        round-records : (k : ℕ) → k < job .K → RecordRules hash s h a m k × SameMatrix (job .n - m) (job .n) (matrix s h m k) (jobMatrix job g (st .gone) m k)
+        round-records k l = record-kept (st .gone) before a m k (r .prior) in-round (r .count .early) l (record-stands k l)
 
         round-counts : counts s h m ≡ C
         round-counts = read-counts hash job (st .gone) m f s _ (cond closing 0 leaving) sheet-stands

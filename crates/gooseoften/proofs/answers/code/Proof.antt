@@ -1,5 +1,5 @@
 use native.Mathlib.Omega.{arith}
-use Rattle.gooseoften.proofs.Codes.{number-most}
+use Rattle.rules.proofs.RefusalNumbers.{number-most}
 use borrow.Author.Needs.{needs}
 use Rattle.gooseoften.proofs.answers.code.Statement.{statement}
 use Rattle.gooseoften.proofs.answers.code.Tie as tie

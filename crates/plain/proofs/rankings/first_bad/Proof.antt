@@ -1,12 +1,10 @@
 use Prim.Native.Nat.{ℕ, _+_, _-_, _*_, _≤_, _<_}
 use mathlib.Core.Path.{_≡_, sym, _∙_}
 use native.Mathlib.Nat.{mul-le-mul-right}
-use native.Mathlib.Numerals.{add-one}
 use native.Mathlib.Omega.{arith}
-use borrow.Author.Tests.{not-true, not-false}
 use Rattle.jobs.specs.Job.{Job}
 use Rattle.jobs.specs.Write.{firstBad}
-use Rattle.plain.proofs.Firsts.{bad-none, bad-passed, bad-found, bad-stays}
+use Rattle.numbers.proofs.Search.{first-none, first-passed, first-found}
 use borrow.Author.Needs.{needs}
 use Rattle.plain.proofs.rankings.first_bad.Statement.{statement}
 use Rattle.plain.proofs.rankings.first_bad.Tie as tie
@@ -23,19 +21,16 @@ up b k n h = mul-le-mul-right n (omega arith)
 returns : tie.Need-returns Inv-loop μ-loop
 returns c =
     let l = c .before .before .before .loop in
-    let f = c .before .before .before .before .before .args in
     λ job en er.
-    let bad = bad-found job (l .b) (l .inv .1 job en er) (rw (en, er) (sym (c .before .is-ranking .ensures) ∙ not-true _ (c .if1 .taken))) in
-    let d : f .k - (l .b + 1) + (l .b + 1) ≡ f .k = omega arith in
-    add-one (l .b) ∙ sym (rw d at (bad-stays job (l .b + 1) (f .k - (l .b + 1)) (l .b) (bad ∙ add-one (l .b))))
+    sym (first-found _ (l .b) _ (omega arith) (l .inv .1 job en er) (rw (en, er, ← c .before .is-ranking .ensures) (c .if1 .taken)))
 
 loop-again : tie.Need-loop-again Inv-loop μ-loop
 loop-again c =
     let l = c .before .before .before .loop in
-    (omega arith, λ job en er. bad-passed job (l .b) (l .inv .1 job en er) (rw (en, er) (sym (c .before .is-ranking .ensures) ∙ not-false _ (c .if1 .left))))
+    (omega arith, λ job en er. first-passed (l .b) _ (l .inv .1 job en er) (rw (en, er, ← c .before .is-ranking .ensures) (c .if1 .left)))
 
 pub first-bad-spec : {M : Type 1} → statement M
-first-bad-spec = tie.close (tie.spec Inv-loop μ-loop (λ c. (omega arith, λ job en er. bad-none job))
+first-bad-spec = tie.close (tie.spec Inv-loop μ-loop (λ c. (omega arith, λ job en er. first-none _))
     (λ c. let f = c .before .before .before .args in omega (arith, up (c .before .loop .b) (f .k) (f .n) (omega arith), c .before .before .before .pre))
     (λ c κs. let f = c .before .before .before .args in omega (arith, up (c .before .loop .b) (f .k) (f .n) (omega arith), c .before .before .before .pre))
     (λ c. search needs) returns (λ c. search needs) (λ c. search needs) loop-again

@@ -18,7 +18,7 @@ use Rattle.records.proofs.ballot.read_ballot.Tie as tie
 framed : (c : tie.After-enum-told) →
     let a = c .before .before .before .before .before .before .args in Framed (now (a .board)) (a .at) (ballotLength (a .h .n)) BA
     (number2 (now (a .board)) (a .at + 2)) (a .number) Sound
-framed c = rw (c .before .before .before .ballot-length .ensures .0, c .enum-told .given .1) at (c .before .before .ballot-frame .ensures)
+framed c = rw (c .enum-told .given .1) at (c .before .before .ballot-frame .ensures)
 
 few : (c : tie.After-enum-told) → let a = c .before .before .before .before .before .before .args in a .h .n * a .h .n ≤ 64
 few c = cells (c .before .before .before .before .before .before .args .h .n) (c .before .before .before .before .before .before .pre .0 .high)
@@ -26,7 +26,7 @@ few c = cells (c .before .before .before .before .before .before .args .h .n) (c
 returns : tie.Need-returns
 returns c =
     wrong-frame (ballot-table _ (c .before .before .before .before .before .before .before .args .h) _ _) _
-    (rw (c .before .before .before .before .ballot-length .ensures .0, c .before .framed .given .1) at (c .before .before .before .ballot-frame .ensures))
+    (rw (c .before .framed .given .1) at (c .before .before .before .ballot-frame .ensures))
 
 fields-good-requires : tie.Need-fields-good-requires
 unfolding Framed

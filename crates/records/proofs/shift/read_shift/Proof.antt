@@ -17,12 +17,12 @@ use Rattle.records.proofs.shift.read_shift.Tie as tie
 framed : (c : tie.After-enum-told) →
     let a = c .before .before .before .before .before .before .args in Framed (now (a .board)) (a .at) (shiftLength (a .h .n) (a .rows)) SH
     (number2 (now (a .board)) (a .at + 2)) (a .number) Sound
-framed c = rw (c .before .before .before .shift-length .ensures .0, c .enum-told .given .1) at (c .before .before .ballot-frame .ensures)
+framed c = rw (c .enum-told .given .1) at (c .before .before .shift-frame .ensures)
 
 returns : tie.Need-returns
 returns c =
     wrong-frame (shift-table _ (c .before .before .before .before .before .before .before .args .h) _ _ _ _ _) _
-    (rw (c .before .before .before .before .shift-length .ensures .0, c .before .framed .given .1) at (c .before .before .before .ballot-frame .ensures))
+    (rw (c .before .framed .given .1) at (c .before .before .before .shift-frame .ensures))
 
 fields-good-requires : tie.Need-fields-good-requires
 unfolding Framed

@@ -1,0 +1,2 @@
+-- What the functions rely on, and what they tell.
+pub mod Order

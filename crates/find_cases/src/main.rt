@@ -1,0 +1,94 @@
+// Looks up the digests of standard input on the board beside them, and prints a line for each case: its name, the answer, and whether the rest of the list stayed as it was.
+mod list;
+
+use rules::Found;
+use testing::input;
+use testing::input::Piece;
+use testing::print;
+ghost use Prim.Native.Nat.{_≤_};
+ghost use lib.ListN.{length};
+
+// The first numbers of a list.
+fn print_numbers(list: &[u16], count: usize) {
+    for i in 0..list.len() {
+        if i < count {
+            print::text(b" ");
+            print::number(numbers::wide16(list[i]));
+        }
+    }
+}
+
+fn print_answer(answer: Found, list: &[u16], count: usize) {
+    match answer {
+        Found::Listed => {
+            print::text(b" found");
+            print_numbers(list, count);
+            print::text(b", rest ");
+            print::kept(list::kept(list, count));
+        }
+        Found::Refused { refusal, record } => {
+            print::text(b" ");
+            print::refused(refusal, record);
+            print::text(b", list ");
+            print::kept(list::kept(list, 0));
+        }
+    }
+}
+
+// Looks up digests in the first places of a list.
+fn look_up(board: &[u8], digests: &[u8], list: &mut [u16], room: usize)
+    requires { ⌜ room ≤ length (now list) ⌝ }
+{
+    let found = receipts::find(board, digests, &mut list[0..room]);
+    print_answer(found, list, digests.len() / 32);
+}
+
+// The same in a list of so many places, the case's name ahead of the answer; false where they are too many for this program.
+fn answer(name: &[u8], board: &[u8], digests: &[u8], room: usize) -> bool {
+    if list::ROOM < room {
+        return false;
+    }
+    let mut list = list::filled();
+    print::text(name);
+    look_up(board, digests, &mut list, room);
+    true
+}
+
+// The case at a place: a name, a board, digests, and a number, the places of the list. The place after it, or 0 where it is damaged.
+fn answer_at(s: &[u8], at: usize) -> usize {
+    let Piece::Bytes(a, b) = input::piece_at(s, at) else {
+        return 0;
+    };
+    let Piece::Bytes(c, d) = input::piece_at(s, b) else {
+        return 0;
+    };
+    let Piece::Bytes(e, f) = input::piece_at(s, d) else {
+        return 0;
+    };
+    if s.len() - f < 4 {
+        return 0;
+    }
+    let room = numbers::wide32(fields::number4(s, f));
+    if !answer(&s[a..b], &s[c..d], &s[e..f], room) {
+        return 0;
+    }
+    f + 4
+}
+
+fn run(s: &[u8]) {
+    let mut at = 0;
+    while at < s.len() {
+        let next = answer_at(s, at);
+        if next <= at {
+            print::bad_input();
+            return;
+        }
+        at = next;
+    }
+}
+
+fn main() {
+    let mut input = input::room();
+    let n = input::read(&mut input);
+    run(&input[..n]);
+}

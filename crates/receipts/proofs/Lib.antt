@@ -1,0 +1,3 @@
+-- Laws of the walk, and of what the search answers.
+pub mod Walking
+pub mod Answering
