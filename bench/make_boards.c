@@ -32,8 +32,9 @@ static const struct size SIZES[] = {
 /*
  * Ballot k, from 0, ranks process k mod n + 1 first, then 1 (k even) or 2 (k odd), then the others
  * by number. Nobody ever has more than half: 1 gets only even ballots, 2 only odd ones. Process n
- * goes out first, then n - 1, down to 3; then 1 and 2 have half each, and 1 wins. That takes n - 1
- * rounds, the most there can be.
+ * goes out first, then n - 1, down to 3; then 1 and 2 have half each. That takes n - 1 rounds, the
+ * most there can be. Of n = 8 process 2 wins: the ballots of 3 are even, so 2 had more in the round
+ * before. Of n = 2 process 1 wins.
  */
 static void rank(uint8_t *ranking, size_t n, size_t k)
 {
@@ -55,7 +56,7 @@ static void expected(size_t n, size_t *answer)
 {
     memset(answer, 0, PLAIN_ANSWER * sizeof *answer);
     answer[0] = n - 1;
-    answer[1] = 1;
+    answer[1] = n == 2 ? 1 : 2;
     for (size_t process = n; process > 2; process--) {
         answer[2 + n - process] = process;
     }

@@ -8,6 +8,7 @@ import gen
 import mutate
 from boardref import be
 from covered import BIG, BOARDS, PLACED, PLACES, Cases, Pool, place
+from elections import WORKED
 from mutate import Base
 
 HOUSE = gen.HOUSE
@@ -230,15 +231,13 @@ def large(cases, rng):
     last, sheet = len(base.starts) - 2, base.starts[-2]
     cases.add('eight', base.board, base.accepted, 'n8', 'hand.n', 'sound', 'ties')
     cases.add('eight.cut.one-byte', base.board[:-1], ('refused', 1, last), 'n8', '1 last')
-    cases.add('eight.and-1-byte-more', base.board + b'\0', ('refused', 12, last + 1), 'n8',
-              '12 first')
     cases.add('eight.rt%d.out=3' % last, base.board[:sheet + 3] + b'\3' + base.board[sheet + 4:],
               ('refused', 11, last), 'n8', '11 last')
-    for record, kind, spot in ((last - 1, 'r', 'last'), (4, 't2', 'middle')):
+    for record, kind, spot, cut in ((last - 1, 'r', 'last', -1), (4, 't2', 'middle', 5)):
         f = [g for g in base.fields if g.record == record and g.kind == kind][-1]
         value = (base.value(f) + 1) % base.q if kind == 'r' else base.value(f) * 4 % base.p
-        cases.add('eight.sh%d.last.%s.another' % (record, kind), base.put(f, value),
-                  ('refused', 8, record), 'n8', '8.SH ' + spot)
+        cases.add('eight.sh%d.last.%s.another' % (record, kind),
+                  base.put(f, value)[:base.starts[cut]], ('refused', 8, record), 'n8', '8.SH ' + spot)
 
 
 def false_proofs(cases, pool):
@@ -279,7 +278,6 @@ def false_sheets(cases, pool):
     for name in ('early', 'again'):
         pool.pick(cases, name, ['half'], '', 1, lambda board, note: '')
     pool.pick(cases, 'half_ok', ['half', 'sound'], longest=5000)
-    pool.pick(cases, 'tie', ['ties', '11 first'], longest=9000)
     pool.pick(cases, 'moved', ['tally', '10 middle'], '', 2, lambda board, note: note[:3])
     pool.pick(cases, 'bonly', ['tally', '10 middle'])
     pool.pick(cases, 'minus', ['outside', '7.BA middle'], '', 2, lambda board, note: note[:3])
@@ -288,6 +286,19 @@ def false_sheets(cases, pool):
     pool.pick(cases, 'forged', ['forged'], '^(counts|n=.*(counts|ballot))', longest=9000)
     pool.pick(cases, 'forged', ['forged'], 'three of four', longest=9000)
     pool.pick(cases, 'forged', ['forged'], 'random', 1, lambda board, note: note[:20], longest=5000)
+
+
+def ties(cases, pool):
+    """Equal counts: elections worked by hand, but for those of many ballots, and boards that decide
+    by another rule."""
+    pool.pick(cases, 'tie', ['ties', '11 first'], longest=9000)
+    for worked in WORKED:
+        length = ref.board_length(worked.n, worked.K, len(worked.counts))
+        if not worked.rankings or length < 20000:
+            pool.pick(cases, 'equal', ['ties', 'sound' if worked.rankings else 'forged',
+                                       *['n8'] * (worked.n == 8), *worked.decided],
+                      '^%s$' % worked.name)
+    pool.pick(cases, 'otherwise', ['ties', 'otherwise', '11 middle'])
 
 
 def headers(cases):
@@ -350,6 +361,7 @@ def boards():
     pool = Pool(mutate.dishonest, random.Random(1))
     false_proofs(cases, pool)
     false_sheets(cases, pool)
+    ties(cases, pool)
     sound(cases, rng)
     large(cases, rng)
     return cases

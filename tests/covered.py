@@ -7,6 +7,13 @@ Case = collections.namedtuple('Case', 'name case expect covers')     # a case fi
 Made = collections.namedtuple('Made', 'name board expect note')      # a board that faults made
 PLACES = ('first', 'middle', 'last')
 
+# what decides between equal counts of round m: see elections.py
+TIES = {'%s.%s' % (end, by): 'who %s in a tie of round m: %s' % (does, text)
+        for end, does in (('out', 'goes out'), ('winner', 'wins'))
+        for by, text in (('latest', 'round m - 1 decides'), ('first', 'round 1 alone decides'),
+                         ('narrowed', 'of three an earlier round leaves two, one before it decides'),
+                         ('number', 'all rounds agree, the number decides'))}
+
 BOARDS = {
     'hand.empty': '01 by hand: empty board is 1, record 0',
     'hand.n': '01 by hand: n = 8 passes, 9 is 3',
@@ -39,6 +46,9 @@ BOARDS = {
     'struck': 'another row or process struck, an entry changed, ballots from elsewhere',
     'forged': 'forged boards of tiny groups',
     'ties': 'ties, broken rightly and wrongly',
+    **TIES,
+    'otherwise': 'ties broken by this round alone, by one round back alone, from round 1 up, by the '
+                 'lowest number',
     'half': 'closing at exactly half, a round early, a round late',
     'tally': 'votes moved; tallies whose first equation alone holds',
     'two': 'two faults: the one that is named',
@@ -68,6 +78,8 @@ JOBS = {
     'groups': 'written: least, tiny and large groups; counters 0 and 255',
     'draws': 'written: draws all 1, all q - 1',
     'ties': 'written: ties',
+    # of rankings no more than two can tie for the winner
+    **{key: 'written: ' + text for key, text in TIES.items() if key != 'winner.narrowed'},
     'K1000': 'written: K = 1,000 with n = 2',
     'n8': 'written: n = 8 in 7 rounds',
 }

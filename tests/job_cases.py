@@ -4,6 +4,7 @@ import random
 import boardref as ref
 import gen
 from covered import BIG, JOB_PLACED, JOBS, Cases
+from elections import WORKED
 
 HOUSE = gen.HOUSE
 NAMES = ('n', 'K', 'p', 'q', 'g0', 'counter', 'label', 'rankings', 'draws', 'out_len')
@@ -151,6 +152,16 @@ def written(cases, rng):
                   *['room'] * (room > 0))
 
 
+def ties(cases, rng):
+    """Equal counts: elections worked by hand."""
+    for worked in WORKED:
+        if worked.rankings:
+            job = Job(rng, worked.n, worked.rankings, HOUSE)
+            assert job.written()[2:] == (len(worked.counts), worked.outs, worked.winner), worked.name
+            cases.add('tie.%s.n%d.k%d' % (worked.name, worked.n, worked.K), job.but(), job.written(),
+                      'n', 'ties', *worked.decided)
+
+
 def jobs():
     rng = random.Random(2)
     cases = Cases(JOBS, JOB_PLACED)
@@ -168,4 +179,5 @@ def jobs():
     weak_generators(cases, rng)
     written(cases, rng)
     thousand(cases, rng)
+    ties(cases, rng)
     return cases

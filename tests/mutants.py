@@ -80,10 +80,8 @@ CHECKERS = [
      "for i in range(1, standing.n + 1):\n        if 2 *"),
     ('closes only by majority', "return standing.m == standing.n - 1", "return standing.m == standing.n"),
     ('closes a round early', "return standing.m == standing.n - 1", "return standing.m >= max(1, standing.n - 2)"),
-    ('winner: highest number', "counts[i - 1] > counts[best - 1]", "counts[i - 1] >= counts[best - 1]"),
     ('winner among all', "for i in standing.still_in:                     # rising numbers\n        if best",
      "for i in range(1, standing.n + 1):\n        if best"),
-    ('out: lowest number', "counts[i - 1] <= counts[worst - 1]", "counts[i - 1] < counts[worst - 1]"),
     ('out among all', "for i in standing.still_in:                     # rising numbers\n        if worst",
      "for i in range(1, standing.n + 1):\n        if worst"),
     ('out 0 let through', "if out != lowest_due(standing, counts):", "if out != lowest_due(standing, counts) and out:"),
@@ -158,6 +156,26 @@ CHECKERS = [
     ('g1 compared modulo p', "if g1 != make_g1(p, q, g0, counter, label) or", "if g1 % p != make_g1(p, q, g0, counter, label) or"),
     ('g1 to the power p-1 over 2', "return pow(number, (p - 1) // q, p)", "return pow(number, 2, p)"),
 ]
+
+# the sheets that another rule on equal counts would look at
+OTHER_SHEETS = (
+    ('this round alone', '()'), ('one round back alone', 'standing.sheets[-1:]'),
+    ('two rounds back alone', 'standing.sheets[-2:-1]'),
+    ('no more than two rounds back', 'standing.sheets[-2:]'),
+    ('latest earlier round left', 'standing.sheets[:-1]'), ('round 1 left', 'standing.sheets[1:]'),
+    ('round 1 alone', 'standing.sheets[:1]'), ('from round 1 up', 'standing.sheets[::-1]'),
+    ('sums of the earlier rounds', '(tuple(map(sum, zip(*standing.sheets))),)[:len(standing.sheets)]'),
+    ('%s in earlier rounds', 'tuple(tuple(-x for x in sheet) for sheet in standing.sheets)'))
+
+COUNTS = [
+    ('winner: highest number', "latest_first(standing, counts, i) > latest_first(", "latest_first(standing, counts, i) >= latest_first("),
+    ('out: lowest number', "<= latest_first(standing, counts, worst)", "< latest_first(standing, counts, worst)"),
+    ('the sheet of round 1 kept alone', "sheets=standing.sheets + (tuple(counts),)", "sheets=standing.sheets or (tuple(counts),)"),
+    ('the latest sheet kept alone', "sheets=standing.sheets + (tuple(counts),)", "sheets=(tuple(counts),)"),
+] + [('%s: %s' % (end, name.replace('%s', other)), '    %s = None\n' % found,
+      '    %s = None\n    standing = standing._replace(sheets=%s)\n' % (found, sheets))
+     for end, found, other in (('out', 'worst', 'more'), ('winner', 'best', 'fewer'))
+     for name, sheets in OTHER_SHEETS]
 
 # That the lowest of several numbers is found no stored case can tell: see find_cases.py.
 FINDERS = [
@@ -281,6 +299,11 @@ def boards():
     return [Question(board.name, 'check', (board.bytes,)) for board in stored.boards()]
 
 
+def ties():
+    """The boards made for equal counts: to ask all the others before them would take long."""
+    return [question for question in boards() if question.case.startswith(('equal.', 'otherwise.'))]
+
+
 def finds():
     return [Question(find.name, 'find', (find.board, find.digests, find.room))
             for find in stored.finds()]
@@ -316,6 +339,7 @@ def main():
     texts = {name: text_of(name) for name in MODULES}
     left = []
     for what, mutants, questions in (('checkers', CHECKERS, boards()),
+                                     ('checkers, equal counts', COUNTS, ties()),
                                      ('finders', FINDERS, finds())):
         some = survivors(texts, mutants, questions)
         print('%s: %d mutants, %d survive' % (what, len(mutants), len(some)))

@@ -136,10 +136,11 @@ static size_t shift_fault(const struct board *board, size_t at, size_t before, s
 
 /* ---- The count. */
 
-/* The processes gone out, in order. */
+/* The processes gone out, in order, and the counts of the rounds so far, the present one last. */
 struct standing {
     size_t outs;
     size_t order[MOST_PROCESSES];
+    uint32_t sheets[MOST_PROCESSES][MOST_PROCESSES];
 };
 
 static bool is_out(const struct standing *standing, size_t process)
@@ -152,26 +153,39 @@ static bool is_out(const struct standing *standing, size_t process)
     return false;
 }
 
-/* Of those still in: the lowest count, highest number among equals. */
-static size_t lowest(const struct standing *standing, const uint32_t *counts, size_t n)
+/* Below 0 if a has fewer than b in the latest round where they differ, above 0 if more; 0 if all
+   rounds agree. */
+static int compare(const struct standing *standing, size_t a, size_t b)
+{
+    for (size_t m = standing->outs + 1; m > 0; m--) {
+        const uint32_t *counts = standing->sheets[m - 1];
+        if (counts[a - 1] != counts[b - 1]) {
+            return counts[a - 1] < counts[b - 1] ? -1 : 1;
+        }
+    }
+    return 0;
+}
+
+/* Of those still in: the least by compare, highest number among equals. */
+static size_t lowest(const struct standing *standing, size_t n)
 {
     size_t best = 0;
 
     for (size_t i = 1; i <= n; i++) {
-        if (!is_out(standing, i) && (best == 0 || counts[i - 1] <= counts[best - 1])) {
+        if (!is_out(standing, i) && (best == 0 || compare(standing, i, best) <= 0)) {
             best = i;
         }
     }
     return best;
 }
 
-/* Of those still in: the highest count, lowest number among equals. */
-static size_t highest(const struct standing *standing, const uint32_t *counts, size_t n)
+/* Of those still in: the greatest by compare, lowest number among equals. */
+static size_t highest(const struct standing *standing, size_t n)
 {
     size_t best = 0;
 
     for (size_t i = 1; i <= n; i++) {
-        if (!is_out(standing, i) && (best == 0 || counts[i - 1] > counts[best - 1])) {
+        if (!is_out(standing, i) && (best == 0 || compare(standing, i, best) > 0)) {
             best = i;
         }
     }
@@ -179,13 +193,13 @@ static size_t highest(const struct standing *standing, const uint32_t *counts, s
 }
 
 /* The round is the last: it is round n - 1, or a process still in has more than half. */
-static bool closes(const struct standing *standing, const uint32_t *counts, size_t n, size_t k)
+static bool closes(const struct standing *standing, size_t n, size_t k)
 {
     if (standing->outs + 1 == n - 1) {
         return true;
     }
     for (size_t i = 1; i <= n; i++) {
-        if (!is_out(standing, i) && 2 * counts[i - 1] > k) {
+        if (!is_out(standing, i) && 2 * standing->sheets[standing->outs][i - 1] > k) {
             return true;
         }
     }
@@ -239,12 +253,13 @@ static bool tally_holds(const struct board *board, const struct round *round, co
     return y == power(g->p, g->g1, s);
 }
 
-/* The sheet at a place. It fills in the counts. */
+/* The sheet at a place. Its counts go to the standing count. */
 static size_t sheet_fault(const struct board *board, const struct round *round, size_t at,
-                          const struct standing *standing, uint32_t *counts)
+                          struct standing *standing)
 {
     size_t n = board->n;
     const uint8_t *sheet = board->bytes + at;
+    uint32_t *counts = standing->sheets[standing->outs];
 
     if (board->length - at < sheet_size(n)) {
         return PLAIN_LENGTH;
@@ -264,7 +279,7 @@ static size_t sheet_fault(const struct board *board, const struct round *round, 
             return PLAIN_TALLY;
         }
     }
-    size_t due = closes(standing, counts, n, board->k) ? 0 : lowest(standing, counts, n);
+    size_t due = closes(standing, n, board->k) ? 0 : lowest(standing, n);
     return sheet[3] == due ? PLAIN_ACCEPTED : PLAIN_OUT;
 }
 
@@ -320,11 +335,10 @@ static size_t ending(const struct board *board, size_t end, size_t record,
 static size_t rounds_fault(const struct board *board, size_t *answer)
 {
     size_t n = board->n, k = board->k;
-    struct standing standing = {0, {0}};
+    struct standing standing = {.outs = 0};
     struct round round = {.at = HEADER_LENGTH, .size = ballot_size(n)};
 
     for (;;) {
-        uint32_t counts[MOST_PROCESSES] = {0};
         size_t first = 1 + round.number * (k + 1);
         size_t sheet = round.at + k * round.size;
         size_t ballot = 0;
@@ -333,16 +347,16 @@ static size_t rounds_fault(const struct board *board, size_t *answer)
             answer[0] = first + ballot;
             return fault;
         }
-        fault = sheet_fault(board, &round, sheet, &standing, counts);
+        fault = sheet_fault(board, &round, sheet, &standing);
         if (fault != PLAIN_ACCEPTED) {
             answer[0] = first + k;
             return fault;
         }
-        if (closes(&standing, counts, n, k)) {
+        if (closes(&standing, n, k)) {
             return ending(board, sheet + sheet_size(n), first + k, &standing,
-                          highest(&standing, counts, n), answer);
+                          highest(&standing, n), answer);
         }
-        size_t out = lowest(&standing, counts, n);
+        size_t out = lowest(&standing, n);
         standing.order[standing.outs++] = out;
         round = next_round(board, &round, sheet, out);
     }

@@ -8,46 +8,40 @@ use native.Mathlib.Omega.{arith}
 use lib.Dec.{eqb}
 use lib.ListN.{length, getD, take, drop, set, replicate, take-append-drop, length-map, length-set}
 use lib.Seq.{getD-take, length-take-le, take-suc-set, drop-set-lt, drop-drop}
-use Rattle.rules.specs.Count.{Standing, ended, member, lowest, highest, wins, countOf}
-use Rattle.count.specs.State.{preferred, picked, pick, passes, countsOn, listOf, standingOf, resultOf, wentOut, Listed, Kept}
+use borrow.Author.Tests.{ne-eqb}
+use Rattle.rules.specs.Count.{Standing, ended, member, countOf, fewer, pick, behind, wins}
+use Rattle.rules.proofs.Fewer.{decided, behind-is}
+use Rattle.count.specs.State.{countsBy, replaces, picked, pickOf, passes, countsOn, listOf, standingOf, resultOf, wentOut, Listed, Kept}
 use Rattle.rules.specs.Answers.{withZeros}
+use Rattle.count.proofs.Comparison.{fewer-same, on-sheets}
 use Rattle.count.specs.declared.Gone.{Gone}
 use Rattle.count.specs.declared.Count.{Count}
 use Rattle.count.specs.declared.Ended.{Ended}
 use Rattle.count.specs.declared.Sheet.{Sheet}
 
+-- ---- the pick, one process at a time
 small : (a b : Bool) (best i : ℕ) → best ≤ i → cond a best (cond b (i + 1) best) ≤ i + 1
 small true b best i h = omega arith
 small false true best i h = omega arith
 small false false best i h = omega arith
 
-pub picked-small : (least out : Bool) (best i : ℕ) (counts : List ℕ) → best ≤ i → picked least out best i counts ≤ i + 1
-picked-small least out best i counts = small out (eqb best 0 || preferred least (getD counts i 0) (getD counts (best - 1) 0)) best i
+pub picked-small : (least : Bool) (st : Standing) (counts : List ℕ) (best i : ℕ) → best ≤ i → picked least st counts best i ≤ i + 1
+picked-small least st counts best i = small (member (i + 1) (st .gone)) (eqb best 0 || replaces least (behind st counts best (i + 1))) best i
 
-pub pick-none : (least : Bool) (st : Standing) (counts : List ℕ) → 0 ≡ pick least st counts 0
-unfolding lowest highest
-pick-none true st counts = refl
-pick-none false st counts = refl
+pub pick-none : (least : Bool) (st : Standing) (counts : List ℕ) → 0 ≡ pickOf least st counts 0
+unfolding pick
+pick-none least st counts = refl
 
-module _ (n : ℕ) (arr : List ℕ) (i : ℕ) (h : i < n) where
-  this-count : countOf (take n arr) (suc i) ≡ getD arr i 0
-  this-count = let e : suc i - 1 ≡ i = omega arith in rw e (getD-take n arr i 0 h)
+pub pick-more : (least : Bool) (st : Standing) (counts : List ℕ) (best i : ℕ) → best ≡ pickOf least st counts i → picked least st counts best i ≡ pickOf least st counts (i + 1)
+unfolding pick
+pick-more least st counts best i e = rw (add-one i, ← e)
 
-  that-count : (best : ℕ) → best ≤ i → countOf (take n arr) best ≡ getD arr (best - 1) 0
-  that-count best b = getD-take n arr (best - 1) 0 (omega arith)
+-- ---- the majority
+pub passes-is : (n : ℕ) (gone arr : List ℕ) (i : ℕ) → i < n → (K : ℕ) →
+    passes (member (i + 1) gone) (getD arr i 0) K ≡ passes (member (suc i) gone) (countOf (take n arr) (suc i)) K
+passes-is n gone arr i h K = let e : suc i - 1 ≡ i = omega arith in rw (add-one i, e, getD-take n arr i 0 h)
 
-module _ (n : ℕ) (st : Standing) (arr : List ℕ) (i : ℕ) (h : i < n) where
-  pub pick-more : (least : Bool) (best : ℕ) → best ≤ i → best ≡ pick least st (take n arr) i →
-      picked least (member (i + 1) (st .gone)) best i arr ≡ pick least st (take n arr) (i + 1)
-  unfolding lowest highest
-  pick-more true best b e = rw (add-one i, ← e, this-count n arr i h, that-count n arr i h best b)
-  pick-more false best b e = rw (add-one i, ← e, this-count n arr i h, that-count n arr i h best b)
-
-module _ (n : ℕ) (gone : List ℕ) (arr : List ℕ) (i : ℕ) (h : i < n) where
-  pub passes-is : (K : ℕ) → passes (member (i + 1) gone) (getD arr i 0) K ≡ passes (member (suc i) gone) (countOf (take n arr) (suc i)) K
-  passes-is K = rw (add-one i, this-count n arr i h)
-
--- the counts and the gone of a count's state
+-- ---- the counts and the gone of a count's state
 pub gone-is : (n : ℕ) (c : Count) → standingOf n c .gone ≡ listOf (c .gone)
 unfolding standingOf
 gone-is n c = refl
@@ -59,6 +53,27 @@ same-gone n c d e = ap listOf e
 pub sheets-many : (n : ℕ) (c : Count) → Kept c → length (standingOf n c .sheets) ≡ c .gone .outs
 unfolding standingOf
 sheets-many n c k = length-map (take (c .gone .outs) (c .sheets)) (countsOn n) ∙ length-take-le (c .gone .outs) (c .sheets) (omega arith)
+
+-- the pick, where process i + 1 is still in and one was picked before it
+pub picked-on : (n : ℕ) (c : Count) (least : Bool) (counts : List ℕ) (best i : ℕ) (b : Bool) → member (i + 1) (listOf (c .gone)) ≡ false → (best ≡ 0 → ⊥) →
+    replaces least (behind (standingOf n c) counts best (i + 1)) ≡ b → cond b (i + 1) best ≡ picked least (standingOf n c) counts best i
+picked-on n c least counts best i b m ne r = rw (gone-is n c, m, ne-eqb best 0 ne, r)
+
+-- who is behind whom, by this round's sheet and by those kept
+pub behind-on : (n : ℕ) (c : Count) (t : Sheet) → Kept c → (a b : ℕ) → a - 1 < n → b - 1 < n →
+    behind (standingOf n c) (countsOn n t) a b
+    ≡ decided (getD (t .counts) (a - 1) 0) (getD (t .counts) (b - 1) 0) (fewer (countsBy (c .sheets)) (c .gone .outs) a b)
+unfolding standingOf
+behind-on n c t k a b l r =
+    let long : c .gone .outs ≤ length (c .sheets) = omega (arith, k .listed .few, k .sheets-long) in
+    behind-is (standingOf n c) (countsOn n t) a b
+    ∙ rw (
+      sheets-many n c k,
+      getD-take n (t .counts) (a - 1) 0 l,
+      getD-take n (t .counts) (b - 1) 0 r,
+      fewer-same (map (countsOn n) (take (c .gone .outs) (c .sheets))) (countsBy (c .sheets)) (c .gone .outs) a b
+          (λ i h. on-sheets n (c .gone .outs) (c .sheets) i a h long l) (λ i h. on-sheets n (c .gone .outs) (c .sheets) i b h long r),
+    )
 
 -- those gone out are so many, and stand with zeros up to 8
 pub listed-many : (g : Gone) → Listed g → length (listOf g) ≡ g .outs

@@ -3,9 +3,9 @@ use Prim.Native.Nat.{ℕ, _+_, _*_, _-_, _≤_}
 use mathlib.Core.Path.{_≡_}
 use mathlib.Core.List.{List, [], _∷_, _++_, map}
 use mathlib.Core.Bool.{Bool, cond, not, _&&_, _||_}
-use lib.Dec.{eqb, leb, ltb}
-use lib.ListN.{length, getD, take, drop, replicate}
-use Rattle.rules.specs.Count.{Standing, Result, lowest, highest}
+use lib.Dec.{eqb, ltb}
+use lib.ListN.{length, take, drop, replicate}
+use Rattle.rules.specs.Count.{Standing, Result, member, behind, pick}
 use Rattle.count.specs.declared.Sheet.{Sheet}
 use Rattle.count.specs.declared.Gone.{Gone}
 use Rattle.count.specs.declared.Count.{Count}
@@ -47,18 +47,22 @@ pub record Kept (c : Count) : Type 0 where
   pub listed : Listed (c .gone)
   pub sheets-long : length (c .sheets) ≡ 8
 
--- a process with this count is picked before one of a lower number with that
-abbrev pub preferred : (least : Bool) (this that : ℕ) → Bool
-preferred least this that = cond least (leb this that) (ltb that this)
+-- the counts of all sheets
+abbrev pub countsBy : List Sheet → List (List ℕ)
+countsBy sheets = map (λ t. t .counts) sheets
+
+-- a later process is picked where another was: for the least, where that was not behind it; for the most, where it was
+abbrev pub replaces : (least behind : Bool) → Bool
+replaces least behind = cond least (not behind) behind
 
 -- the pick among the first i + 1, from the pick among the first i
-abbrev pub picked : (least out : Bool) (best i : ℕ) (counts : List ℕ) → ℕ
-picked least out best i counts =
-    cond out best (cond (eqb best 0 || preferred least (getD counts i 0) (getD counts (best - 1) 0)) (i + 1) best)
+abbrev pub picked : (least : Bool) → Standing → (counts : List ℕ) (best i : ℕ) → ℕ
+picked least st counts best i =
+    cond (member (i + 1) (st .gone)) best (cond (eqb best 0 || replaces least (behind st counts best (i + 1))) (i + 1) best)
 
 -- who leaves, or else who wins, among the first i
-abbrev pub pick : (least : Bool) → Standing → (counts : List ℕ) (i : ℕ) → ℕ
-pick least st counts i = cond least (lowest st counts i) (highest st counts i)
+abbrev pub pickOf : (least : Bool) → Standing → (counts : List ℕ) (i : ℕ) → ℕ
+pickOf least st counts i = pick (st .gone) (λ best c. replaces least (behind st counts best c)) i
 
 abbrev pub passes : (out : Bool) (votes K : ℕ) → Bool
 passes out votes K = not out && ltb K (2 * votes)

@@ -1,8 +1,8 @@
 // The standing count by value: each sheet takes it and hands back the next.
 ghost use mathlib.Core.Path.{_≡_};
 ghost use Prim.Native.Nat.{ℕ, _+_, _*_, _≤_, _<_};
-ghost use Rattle.rules.specs.Count.{member, start, ended, leaves, wins, closes, majority};
-ghost use Rattle.count.specs.State.{countsOn, listOf, standingOf, resultOf, wentOut, Listed, Kept, preferred, picked, pick, passes};
+ghost use Rattle.rules.specs.Count.{member, start, ended, fewer, behind, leaves, wins, closes, majority};
+ghost use Rattle.count.specs.State.{countsBy, countsOn, listOf, standingOf, resultOf, wentOut, Listed, Kept, replaces, picked, pickOf, passes};
 
 // The counts of a round, by process.
 pub struct Sheet {
@@ -27,32 +27,21 @@ pub struct Ended {
     pub winner: usize,
 }
 
-// Whether a process with this count is picked before one with that: of the least, where it is no higher; of the most, where it is higher.
-fn preferred(least: bool, this: u32, that: u32) -> bool
-    ensures { λ r. ⌜ r ≡ preferred least this that ⌝ }
+// Whether process a had fewer votes than b in the latest of so many rounds where they differ.
+fn fewer(sheets: [Sheet; 8], rounds: usize, a: usize, b: usize) -> bool
+    requires { ⌜ (rounds ≤ 8) × (1 ≤ a) × (a ≤ 8) × (1 ≤ b) × (b ≤ 8) ⌝ }
+    ensures { λ r. ⌜ r ≡ fewer (countsBy sheets) rounds a b ⌝ }
 {
-    if least {
-        return this <= that;
+    for i in 0..rounds {
+        let sheet = sheets[rounds - 1 - i];
+        let counts = sheet.counts;
+        let x = counts[a - 1];
+        let y = counts[b - 1];
+        if x != y {
+            return x < y;
+        }
     }
-    that < this
-}
-
-// The pick among the first i + 1 processes, from the one among the first i; out: whether process i + 1 has gone out.
-fn picked(least: bool, out: bool, best: usize, i: usize, sheet: Sheet) -> usize
-    requires { ⌜ (i < 8) × (best ≤ 8) ⌝ }
-    ensures { λ r. ⌜ r ≡ picked least out best i (sheet .counts) ⌝ }
-{
-    let counts = sheet.counts;
-    if out {
-        return best;
-    }
-    if best == 0 {
-        return i + 1;
-    }
-    if preferred(least, counts[i], counts[best - 1]) {
-        return i + 1;
-    }
-    best
+    false
 }
 
 // Whether a process is still in and has more than half of k votes.
@@ -96,21 +85,63 @@ impl Count {
         }
     }
 
-    // The process still in with the least or with the most votes; 0 where none is in.
-    fn pick(self, least: bool, sheet: Sheet, n: usize) -> usize
-        requires { ⌜ Kept self × (n ≤ 8) ⌝ }
-        ensures { λ r. ⌜ (r ≡ pick least (standingOf n self) (countsOn n sheet) n) × (r ≤ n) ⌝ }
+    // Whether process a is behind b: by the counts of this round, and where they are equal by the earlier rounds.
+    fn behind(self, sheet: Sheet, a: usize, b: usize) -> bool
+        requires { ⌜ Kept self × (1 ≤ a) × (a ≤ 8) × (1 ≤ b) × (b ≤ 8) ⌝ }
+        ensures { λ r. ⌜ ((n : ℕ) → a ≤ n → b ≤ n → r ≡ behind (standingOf n self) (countsOn n sheet) a b) ⌝ }
     {
-        let gone = self.gone;
-        let given = sheet;
-        let mut best = 0;
-        for i in 0..n {
-            best = picked(least, gone.is_out(i + 1), best, i, given);
+        let counts = sheet.counts;
+        let x = counts[a - 1];
+        let y = counts[b - 1];
+        if x != y {
+            return x < y;
+        }
+        let sheets = self.sheets;
+        fewer(sheets, self.gone.outs, a, b)
+    }
+
+    // Whether process c is picked where best was: for the least, where best is not behind it; for the most, where it is.
+    fn replaces(self, least: bool, sheet: Sheet, best: usize, c: usize) -> bool
+        requires { ⌜ Kept self × (1 ≤ best) × (best ≤ 8) × (1 ≤ c) × (c ≤ 8) ⌝ }
+        ensures { λ r. ⌜ ((n : ℕ) → best ≤ n → c ≤ n → r ≡ replaces least (behind (standingOf n self) (countsOn n sheet) best c)) ⌝ }
+    {
+        if least {
+            return !self.behind(sheet, best, c);
+        }
+        self.behind(sheet, best, c)
+    }
+
+    // The pick among the first i + 1 processes, from the one among the first i.
+    fn picked(self, least: bool, sheet: Sheet, best: usize, i: usize) -> usize
+        requires { ⌜ Kept self × (i < 8) × (best ≤ 8) ⌝ }
+        ensures { λ r. ⌜ ((n : ℕ) → i < n → best ≤ n → r ≡ picked least (standingOf n self) (countsOn n sheet) best i) ⌝ }
+    {
+        if self.gone.is_out(i + 1) {
+            return best;
+        }
+        if best == 0 {
+            return i + 1;
+        }
+        if self.replaces(least, sheet, best, i + 1) {
+            return i + 1;
         }
         best
     }
 
-    // The process still in with the lowest count, highest number among equals; 0 where none is in.
+    // The least or the greatest of those still in; 0 where none is in.
+    fn pick(self, least: bool, sheet: Sheet, n: usize) -> usize
+        requires { ⌜ Kept self × (n ≤ 8) ⌝ }
+        ensures { λ r. ⌜ (r ≡ pickOf least (standingOf n self) (countsOn n sheet) n) × (r ≤ n) ⌝ }
+    {
+        let mut best = 0;
+        for i in 0..n {
+            best = self.picked(least, sheet, best, i);
+        }
+        best
+    }
+
+    // Who goes out: of those still in the one with the lowest count, of equal ones that with fewer in the latest earlier round where they
+    // differ, and where all rounds agree the highest number; 0 where none is in.
     pub fn leaves(self, sheet: Sheet, n: usize) -> usize
         requires { ⌜ Kept self × (n ≤ 8) ⌝ }
         ensures { λ r. ⌜ (r ≡ leaves n (standingOf n self) (countsOn n sheet)) × (r ≤ n) ⌝ }
@@ -118,7 +149,8 @@ impl Count {
         self.pick(true, sheet, n)
     }
 
-    // The process still in with the highest count, lowest number among equals; 0 where none is in.
+    // Who wins: of those still in the one with the highest count, of equal ones that with more in the latest earlier round where they
+    // differ, and where all rounds agree the lowest number; 0 where none is in.
     pub fn wins(self, sheet: Sheet, n: usize) -> usize
         requires { ⌜ Kept self × (n ≤ 8) ⌝ }
         ensures { λ r. ⌜ (r ≡ wins n (standingOf n self) (countsOn n sheet)) × (r ≤ n) ⌝ }

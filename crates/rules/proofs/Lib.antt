@@ -1,6 +1,7 @@
 -- Laws of the rules' definitions.
 pub mod Faults
 pub mod Lists
+pub mod Fewer
 pub mod Leaving
 pub mod Sizes
 pub mod Orders

@@ -1,4 +1,4 @@
--- "Rounds" and "The plain count": the standing count, who leaves and who wins, and the count of plain rankings.
+-- "Rounds" and "The plain count": the standing count, who leaves and who wins (02, "Equal lowest counts"), and the count of plain rankings.
 use Prim.Native.Nat.{ℕ, zero, suc, _+_, _*_, _-_}
 use mathlib.Core.Bool.{Bool, false, cond, not, _&&_, _||_}
 use mathlib.Core.List.{List, [], _∷_, _++_}
@@ -20,9 +20,19 @@ unfoldable pub isRanking : (n : ℕ) → List ℕ → Bool
 unfolding member
 isRanking n r = eqb (length r) n && allBelow n (λ i. member (suc i) r)
 
--- the count of process c among the counts of a round
+-- the count of process c among the counts of a round, and in round m + 1
 abbrev pub countOf : List ℕ → ℕ → ℕ
 countOf counts c = getD counts (c - 1) 0
+
+abbrev pub countIn : (sheets : List (List ℕ)) (m c : ℕ) → ℕ
+countIn sheets m c = countOf (getD sheets m []) c
+
+-- "fewer in the latest .. round where they differ; equal ones left after that round are compared in the one before it, and so on":
+-- process a had fewer than b, by the counts of the rounds m, m - 1, .., 1, one after another
+unfoldable pub fewer : (sheets : List (List ℕ)) (m a b : ℕ) → Bool
+fewer sheets zero a b = false
+fewer sheets (suc m) a b =
+    cond (eqb (countIn sheets m a) (countIn sheets m b)) (fewer sheets m a b) (ltb (countIn sheets m a) (countIn sheets m b))
 
 -- "Its state is the round m, the processes still in, those gone out, in order, and the counts of each round so far":
 -- the sheets so far tell the round, and those gone out tell who is still in
@@ -41,20 +51,27 @@ roundNumber st = length (st .sheets) + 1
 unfoldable pub stillIn : (n : ℕ) (gone : List ℕ) (c : ℕ) → Bool
 stillIn n gone c = leb 1 c && leb c n && not (member c gone)
 
-module _ (st : Standing) (counts : List ℕ) where
-  -- among 1 .. i "the process still in with the lowest count, highest number among equals"; 0 where none is in
-  unfoldable pub lowest : (i : ℕ) → ℕ
-  lowest zero = 0
-  lowest (suc i) =
-      cond (member (suc i) (st .gone)) (lowest i)
-      (cond (eqb (lowest i) 0 || leb (countOf counts (suc i)) (countOf counts (lowest i))) (suc i) (lowest i))
+-- the best of 1 .. i still in: by rising number, each one takes the place of the best so far where it is better; 0 where none is in
+unfoldable pub pick : (gone : List ℕ) (better : (best c : ℕ) → Bool) (i : ℕ) → ℕ
+unfolding member
+pick gone better zero = 0
+pick gone better (suc i) =
+    cond (member (suc i) gone) (pick gone better i)
+    (cond (eqb (pick gone better i) 0 || better (pick gone better i) (suc i)) (suc i) (pick gone better i))
 
-  -- "the process still in with the highest count, lowest number among equals"
-  unfoldable pub highest : (i : ℕ) → ℕ
-  highest zero = 0
-  highest (suc i) =
-      cond (member (suc i) (st .gone)) (highest i)
-      (cond (eqb (highest i) 0 || ltb (countOf counts (highest i)) (countOf counts (suc i))) (suc i) (highest i))
+module _ (st : Standing) (counts : List ℕ) where
+  -- the order of processes: by this round's counts, then by those of the latest earlier round, down to round 1
+  abbrev pub behind : (a b : ℕ) → Bool
+  behind a b = fewer (st .sheets ++ (counts ∷ [])) (roundNumber st) a b
+
+  -- "Among those with the lowest count, the one goes out that had fewer in the latest earlier round where they differ; ..
+  -- Only if all rounds agree does the highest number go out."
+  abbrev pub lowest : (i : ℕ) → ℕ
+  lowest i = pick (st .gone) (λ best c. not (behind best c)) i
+
+  -- "The winner among equal highest is found the same way, more being better, lowest number last."
+  abbrev pub highest : (i : ℕ) → ℕ
+  highest i = pick (st .gone) (λ best c. behind best c) i
 
 module _ (n : ℕ) (st : Standing) (counts : List ℕ) where
   -- "a process still in has 2 × count > K"
@@ -106,7 +123,7 @@ ended n st counts = record { rounds = roundNumber st; counts = st .sheets ++ (co
 module _ (n : ℕ) (rankings : List (List ℕ)) where
   -- fuel: rounds at the most
   unfoldable pub countFrom : (fuel : ℕ) → Standing → Result
-  unfolding countsOf closes lowest highest
+  unfolding countsOf closes pick fewer
   countFrom zero st = ended n st (countsOf n rankings (st .gone))
   countFrom (suc fuel) st =
       cond (closes n st (countsOf n rankings (st .gone)) (length rankings))

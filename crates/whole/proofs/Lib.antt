@@ -7,5 +7,6 @@ pub mod FirstFails
 pub mod SecondDemand
 pub mod ThirdDemand
 pub mod Refusals
+pub mod EqualCounts
 pub mod Receipts
 pub mod Worked

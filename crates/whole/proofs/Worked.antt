@@ -18,11 +18,11 @@ use Rattle.group.specs.Arithmetic.{powMod}
 use Rattle.group.specs.Elements.{isElement}
 use Rattle.rules.specs.Group.{orders, paired, derived, generators}
 use Rattle.rules.specs.Proofs.{statementHolds}
-use Rattle.rules.specs.Count.{Standing, roundNumber, member, countOf, lowest, majority, closes, isRanking, table, plainCount}
+use Rattle.rules.specs.Count.{Standing, roundNumber, member, countOf, fewer, pick, majority, closes, isRanking, table, plainCount}
 use Rattle.rules.specs.Openings.{without}
 use Rattle.jobs.specs.Job.{needed, roundDraws, roundAt, boardLength}
 use Rattle.jobs.specs.Write.{Valid}
-use Rattle.whole.specs.Worked.{small, Pair, circle, smallJob, Circle, Worked}
+use Rattle.whole.specs.Worked.{small, Pair, circle, smallJob, Circle, Ties, Worked}
 use Rattle.whole.proofs.Complete.{written}
 
 pair : (x v : ℕ) → x < 11 → v < 11 → Pair x v (paired small x v) (powMod 23 3 x)
@@ -72,8 +72,24 @@ small-valid =
       drawn = rw (circle-draws sha256 23 11 2 1 (replicate 32 0) (replicate 222 5));
     }
 
+tied : Ties
+unfolding fewer pick plainCount
+tied =
+    record {
+      before-out = refl;
+      before-wins = refl;
+      first-out = refl;
+      first-wins = refl;
+      three-out = refl;
+      three-win = refl;
+      number-out = refl;
+      number-wins = refl;
+      plain-out = refl;
+      plain-wins = refl;
+    }
+
 pub worked : Worked
-unfolding statementHolds powMod closes lowest without plainCount
+unfolding statementHolds powMod closes fewer pick without plainCount
 worked =
     record {
       five-one = pair 5 1 (omega arith) (omega arith);
@@ -92,4 +108,5 @@ worked =
       made = small-made;
       small-valid = small-valid;
       small-around = goes-around sha256 23 11 2 1 (replicate 32 0) (replicate 222 5) small-valid;
+      ties = tied;
     }

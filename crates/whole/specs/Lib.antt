@@ -3,5 +3,6 @@ pub mod Rules
 pub mod SecondDemand
 pub mod ThirdDemand
 pub mod Refusals
+pub mod EqualCounts
 pub mod Receipts
 pub mod Worked

@@ -45,7 +45,7 @@ module _ (s : List ℕ) where
   abbrev pub closesAt : (m : ℕ) → Bool
   closesAt m = closes (header s .n) (standingAt m) (counts s (header s) m) (header s .K)
 
-  -- "A closing sheet has out = 0"; "Otherwise out is the process still in with the lowest count, highest number among equals."
+  -- "A closing sheet has out = 0"; otherwise out is the process that goes out (02, "Equal lowest counts")
   abbrev pub dueAt : (m : ℕ) → ℕ
   dueAt m = due (header s) (standingAt m) (counts s (header s) m)
 

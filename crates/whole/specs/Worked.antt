@@ -1,4 +1,4 @@
--- The starred cases of "Tried by hand", each said of the definitions, in one table: with p = 23, q = 11, g0 = 2 and g1 = 3.
+-- The starred cases of "Tried by hand", each said of the definitions, in one table, with p = 23, q = 11, g0 = 2 and g1 = 3; and equal counts (02).
 use Prim.Native.Nat.{ℕ, suc, _-_, _≤_, _<_}
 use mathlib.Core.Path.{_≡_}
 use mathlib.Core.Bool.{true, false}
@@ -9,7 +9,7 @@ use Rattle.group.specs.Arithmetic.{mulMod, powMod}
 use Rattle.group.specs.Elements.{Parameters}
 use Rattle.rules.specs.Group.{paired, derived}
 use Rattle.rules.specs.Proofs.{statementHolds}
-use Rattle.rules.specs.Count.{Standing, roundNumber, start, member, countOf, leaves, closes, plainCount}
+use Rattle.rules.specs.Count.{Standing, roundNumber, start, member, countOf, leaves, wins, closes, plainCount}
 use Rattle.rules.specs.Check.{accepted, checkBoard}
 use Rattle.rules.specs.Openings.{Opening, without}
 use Rattle.jobs.specs.Job.{Job, needed}
@@ -40,6 +40,42 @@ pub record Circle (hash : List ℕ → List ℕ) (job : Job) : Type 0 where
   pub draws : needed job ≡ 222
   pub verdict : checkBoard hash (board hash job) ≡ accepted 2 (3 ∷ []) 1
 
+-- those gone out, and the sheets of the rounds so far
+abbrev pub after : (gone : List ℕ) (sheets : List (List ℕ)) → Standing
+after gone sheets = record { gone = gone; sheets = sheets }
+
+-- rankings of 5 processes, and of 4
+abbrev pub twelveRankings : List (List ℕ)
+twelveRankings =
+    (4 ∷ 2 ∷ 5 ∷ 3 ∷ 1 ∷ []) ∷ (3 ∷ 1 ∷ 2 ∷ 4 ∷ 5 ∷ []) ∷ (3 ∷ 5 ∷ 1 ∷ 4 ∷ 2 ∷ []) ∷ (5 ∷ 4 ∷ 2 ∷ 1 ∷ 3 ∷ []) ∷
+    (3 ∷ 5 ∷ 1 ∷ 2 ∷ 4 ∷ []) ∷ (2 ∷ 1 ∷ 5 ∷ 3 ∷ 4 ∷ []) ∷ (3 ∷ 5 ∷ 2 ∷ 1 ∷ 4 ∷ []) ∷ (1 ∷ 4 ∷ 2 ∷ 3 ∷ 5 ∷ []) ∷
+    (1 ∷ 5 ∷ 2 ∷ 3 ∷ 4 ∷ []) ∷ (5 ∷ 1 ∷ 2 ∷ 4 ∷ 3 ∷ []) ∷ (1 ∷ 4 ∷ 3 ∷ 5 ∷ 2 ∷ []) ∷ (2 ∷ 1 ∷ 3 ∷ 4 ∷ 5 ∷ []) ∷ []
+
+abbrev pub tenRankings : List (List ℕ)
+tenRankings =
+    (2 ∷ 3 ∷ 1 ∷ 4 ∷ []) ∷ (3 ∷ 1 ∷ 2 ∷ 4 ∷ []) ∷ (1 ∷ 4 ∷ 3 ∷ 2 ∷ []) ∷ (2 ∷ 4 ∷ 1 ∷ 3 ∷ []) ∷ (2 ∷ 1 ∷ 4 ∷ 3 ∷ []) ∷
+    (1 ∷ 2 ∷ 4 ∷ 3 ∷ []) ∷ (1 ∷ 3 ∷ 4 ∷ 2 ∷ []) ∷ (4 ∷ 3 ∷ 1 ∷ 2 ∷ []) ∷ (3 ∷ 2 ∷ 1 ∷ 4 ∷ []) ∷ (4 ∷ 3 ∷ 1 ∷ 2 ∷ []) ∷ []
+
+-- "Equal lowest counts", and the winner among equal highest
+pub record Ties : Type 0 where
+  -- two are equal in round 3, and round 2 decides; round 1 would decide otherwise, and so would the number
+  pub before-out : leaves 5 (after (5 ∷ 4 ∷ []) ((3 ∷ 4 ∷ 2 ∷ 2 ∷ 2 ∷ []) ∷ (3 ∷ 4 ∷ 4 ∷ 2 ∷ 0 ∷ []) ∷ [])) (4 ∷ 5 ∷ 4 ∷ 0 ∷ 0 ∷ []) ≡ 1
+  pub before-wins : wins 4 (after (4 ∷ 2 ∷ []) ((3 ∷ 3 ∷ 2 ∷ 2 ∷ []) ∷ (3 ∷ 3 ∷ 4 ∷ 0 ∷ []) ∷ [])) (5 ∷ 0 ∷ 5 ∷ 0 ∷ []) ≡ 3
+  -- they are equal in round 2 too: only round 1 decides
+  pub first-out : leaves 5 (after (5 ∷ 1 ∷ []) ((1 ∷ 1 ∷ 2 ∷ 2 ∷ 1 ∷ []) ∷ (1 ∷ 2 ∷ 2 ∷ 2 ∷ 0 ∷ []) ∷ [])) (0 ∷ 2 ∷ 2 ∷ 3 ∷ 0 ∷ []) ≡ 2
+  pub first-wins : wins 4 (after (3 ∷ 4 ∷ []) ((2 ∷ 3 ∷ 1 ∷ 2 ∷ []) ∷ (3 ∷ 3 ∷ 0 ∷ 2 ∷ []) ∷ [])) (4 ∷ 4 ∷ 0 ∷ 0 ∷ []) ≡ 2
+  -- three are equal in round 3: round 2 leaves two of them, and round 1 decides
+  pub three-out : leaves 5 (after (4 ∷ 5 ∷ []) ((3 ∷ 2 ∷ 4 ∷ 1 ∷ 2 ∷ []) ∷ (3 ∷ 3 ∷ 4 ∷ 0 ∷ 2 ∷ []) ∷ [])) (4 ∷ 4 ∷ 4 ∷ 0 ∷ 0 ∷ []) ≡ 2
+  pub three-win : wins 5 (after (4 ∷ 5 ∷ []) ((3 ∷ 4 ∷ 5 ∷ 0 ∷ 0 ∷ []) ∷ (4 ∷ 4 ∷ 3 ∷ 0 ∷ 1 ∷ []) ∷ [])) (4 ∷ 4 ∷ 4 ∷ 0 ∷ 0 ∷ []) ≡ 2
+  -- "Only if all rounds agree does the highest number go out"; "lowest number last"
+  pub number-out : leaves 4 (after (3 ∷ []) ((1 ∷ 2 ∷ 0 ∷ 1 ∷ []) ∷ [])) (1 ∷ 2 ∷ 0 ∷ 1 ∷ []) ≡ 4
+  pub number-wins : wins 4 (after (3 ∷ 1 ∷ []) ((0 ∷ 2 ∷ 0 ∷ 2 ∷ []) ∷ (0 ∷ 2 ∷ 0 ∷ 2 ∷ []) ∷ [])) (0 ∷ 2 ∷ 0 ∷ 2 ∷ []) ≡ 2
+  -- "The plain count that accepted boards are held to uses this rule too": with the ties of `three-out`, and with those of `before-wins`
+  pub plain-out : plainCount 5 twelveRankings ≡
+      record { rounds = 4; counts = (3 ∷ 2 ∷ 4 ∷ 1 ∷ 2 ∷ []) ∷ (3 ∷ 3 ∷ 4 ∷ 0 ∷ 2 ∷ []) ∷ (4 ∷ 4 ∷ 4 ∷ 0 ∷ 0 ∷ []) ∷ (7 ∷ 0 ∷ 5 ∷ 0 ∷ 0 ∷ []) ∷ []; order = 4 ∷ 5 ∷ 2 ∷ []; winner = 1 }
+  pub plain-wins : plainCount 4 tenRankings ≡
+      record { rounds = 3; counts = (3 ∷ 3 ∷ 2 ∷ 2 ∷ []) ∷ (3 ∷ 3 ∷ 4 ∷ 0 ∷ []) ∷ (5 ∷ 0 ∷ 5 ∷ 0 ∷ []) ∷ []; order = 4 ∷ 2 ∷ []; winner = 3 }
+
 pub record Worked : Type 0 where
   -- "x = 5, v = 1 gives (4, 13)", "x = 5, v = 0 gives (9, 13)", "x = 7, v = 1 gives (16, 2)"
   pub five-one : Pair 5 1 4 13
@@ -66,3 +102,5 @@ pub record Worked : Type 0 where
   pub made : derived sha256 (replicate 32 0) 23 11 2 1 ≡ 3
   pub small-valid : Valid sha256 smallJob
   pub small-around : Circle sha256 smallJob
+  -- equal counts
+  pub ties : Ties

@@ -137,7 +137,7 @@ def read_sheet(reading, group, standing, matrices):
     if out != lowest_due(standing, counts):
         reading.refuse(11)
     reading.close()
-    return after_out(standing, out), None
+    return after_out(standing, counts, out), None
 
 
 def check(board):

@@ -1,14 +1,16 @@
-"""count.py - the count on a board, sheet by sheet."""
+"""count.py - the count on a board, sheet by sheet.  Words in quotation marks are 01's, on equal
+counts 02's."""
 from collections import namedtuple
 
 # "Each sheet takes the standing count and hands back the next."
 
-Standing = namedtuple('Standing', 'n K m still_in outs')
-# m: round of the sheet to come; still_in, outs: tuples of process numbers
+Standing = namedtuple('Standing', 'n K m still_in outs sheets')
+# m: round of the sheet to come; still_in, outs: tuples of process numbers; sheets: the counts of
+# rounds 1 to m-1
 
 
 def first_standing(n, K):
-    return Standing(n, K, 1, tuple(range(1, n + 1)), ())
+    return Standing(n, K, 1, tuple(range(1, n + 1)), (), ())
 
 
 def closes(standing, counts):
@@ -19,27 +21,37 @@ def closes(standing, counts):
     return standing.m == standing.n - 1
 
 
+def latest_first(standing, counts, i):
+    """The counts of process i in this round, in "the latest earlier round", in "the one before it,
+    and so on".  Two processes stand to each other as the first of these in which they differ."""
+    return [sheet[i - 1] for sheet in (counts, *reversed(standing.sheets))]
+
+
 def winner_due(standing, counts):
-    """"the winner is the process still in with the highest count, lowest number among
-    equals." """
+    """"the winner is the process still in with the highest count"; "The winner among equal highest
+    is found the same way, more being better, lowest number last." """
     best = None
     for i in standing.still_in:                     # rising numbers
-        if best is None or counts[i - 1] > counts[best - 1]:
+        if best is None or latest_first(standing, counts, i) > latest_first(standing, counts, best):
             best = i
     return best
 
 
 def lowest_due(standing, counts):
-    """"Otherwise out is the process still in with the lowest count, highest number among
-    equals." """
+    """"Otherwise out is the process still in with the lowest count"; "Among those with the lowest
+    count, the one goes out that had fewer in the latest earlier round where they differ; equal ones
+    left after that round are compared in the one before it, and so on.  Only if all rounds agree
+    does the highest number go out." """
     worst = None
     for i in standing.still_in:                     # rising numbers
-        if worst is None or counts[i - 1] <= counts[worst - 1]:
+        if worst is None or (latest_first(standing, counts, i)
+                             <= latest_first(standing, counts, worst)):
             worst = i
     return worst
 
 
-def after_out(standing, a):
+def after_out(standing, counts, a):
     return standing._replace(m=standing.m + 1,
                              still_in=tuple(i for i in standing.still_in if i != a),
-                             outs=standing.outs + (a,))
+                             outs=standing.outs + (a,),
+                             sheets=standing.sheets + (tuple(counts),))

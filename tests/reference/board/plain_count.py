@@ -1,9 +1,20 @@
-"""plain_count.py - the count of rankings in the clear."""
+"""plain_count.py - the count of rankings in the clear.  Words in quotation marks are 01's, on equal
+counts 02's."""
+
+
+def left_of(processes, all_counts, edge):
+    """Those of the processes that the last round leaves, then "the one before it, and so on": of the
+    ones still compared those with the fewest stay, or with the most.  edge: min or max."""
+    for counts in reversed(all_counts):
+        kept = edge(counts[i - 1] for i in processes)
+        processes = [i for i in processes if counts[i - 1] == kept]
+    return processes
 
 
 def plain_count(n, rankings):
     """"The plain count": fed n and a list of rankings, reads no board.  Written on its own,
-    without the functions that the checker uses."""
+    without the functions that the checker uses.  "The plain count that accepted boards are held
+    to uses this rule too." """
     m = 1
     still_in = set(range(1, n + 1))
     gone = []
@@ -20,13 +31,15 @@ def plain_count(n, rankings):
         all_counts.append([counts[i] for i in range(1, n + 1)])
         # "If a process still in has 2 * count above the number of rankings, or if m = n-1,
         #  the round is the last, and the winner is the process still in with the highest
-        #  count, lowest number among equals."
+        #  count"; "The winner among equal highest is found the same way, more being better,
+        #  lowest number last."
         if any(2 * counts[i] > len(rankings) for i in still_in) or m == n - 1:
-            winner = min(still_in, key=lambda i: (-counts[i], i))
+            winner = min(left_of(still_in, all_counts, max))
             return (m, all_counts, gone, winner)
-        # "Otherwise the process still in with the lowest count, highest number among equals,
-        #  goes out, and m rises by 1."
-        loser = min(still_in, key=lambda i: (counts[i], -i))
+        # "Among those with the lowest count, the one goes out that had fewer in the latest earlier
+        #  round where they differ; equal ones left after that round are compared in the one
+        #  before it, and so on.  Only if all rounds agree does the highest number go out."
+        loser = max(left_of(still_in, all_counts, min))
         still_in.remove(loser)
         gone.append(loser)
         m += 1

@@ -5,6 +5,7 @@ from gen import HOUSE
 from . import ballots, elements, sheets, shifts
 from .election import LISTS3, P23, PAIRS4, Crafts, election, join
 from .forged import forged
+from .ties import ties
 
 
 def dishonest(out, rng):
@@ -27,6 +28,7 @@ def dishonest(out, rng):
     elements.order_3(out, rng, new)
     elements.zeros(out, new)
     forged(out, rng, new)
+    ties(out, new)
 
 
 def honest(out, new):

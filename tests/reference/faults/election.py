@@ -38,26 +38,32 @@ def election(c, lists, alter=None, sheet=None, shift=None, ballot=None):
         if ballot:
             V, faults = ballot(k, V)
         records.append(c.ballot(k, V, faults))
-    still, outs, m = list(range(1, n + 1)), [], 1
+    still, outs, sheets, m = list(range(1, n + 1)), [], [], 1
     while True:
         counts, _ = c.tallies()
-        top = max(counts[i - 1] for i in still)
-        low = min(counts[i - 1] for i in still)
-        closing = 2 * top > K or m == n - 1
-        due = 0 if closing else max(i for i in still if counts[i - 1] == low)
+        sheets.insert(0, counts)
+        by_process = dict(enumerate(zip(*sheets), 1))        # its counts, the latest first
+        top = max(by_process[i] for i in still)
+        low = min(by_process[i] for i in still)
+        closing = 2 * top[0] > K or m == n - 1
+        due = 0 if closing else max(i for i in still if by_process[i] == low)
         shown = due if sheet is None else sheet(m, counts, due)
         records.append(c.sheet(m, shown, counts=[min(x, 65535) for x in counts]))
         if shown == 0:
-            return records, m, outs, min(i for i in still if counts[i - 1] == top)
+            return records, m, outs, min(i for i in still if by_process[i] == top)
         outs.append(shown)
         still.remove(shown)
         m += 1
-        for k in range(1, K + 1):
-            args = dict(shift(m, k, shown) or {}) if shift else {}
-            if alter and 'V' not in args:
-                l = args.get('l')
-                if l is None:
-                    l = next((i for i, row in enumerate(c.V[k]) if row[shown - 1] == 1), 0)
-                args['l'] = l
-                args['V'] = alter(m, k, strike(c.V[k], l))
-            records.append(c.shift(k, args.pop('a', shown), **args))
+        records += [shifted(c, m, k, shown, alter, shift) for k in range(1, K + 1)]
+
+
+def shifted(c, m, k, out, alter, shift):
+    """The shift of ballot k in round m, after a process went out; alter and shift as above."""
+    args = dict(shift(m, k, out) or {}) if shift else {}
+    if alter and 'V' not in args:
+        l = args.get('l')
+        if l is None:
+            l = next((i for i, row in enumerate(c.V[k]) if row[out - 1] == 1), 0)
+        args['l'] = l
+        args['V'] = alter(m, k, strike(c.V[k], l))
+    return c.shift(k, args.pop('a', out), **args)

@@ -1,0 +1,1 @@
+"""What selftest.py, beside this folder, asserts, by subject."""

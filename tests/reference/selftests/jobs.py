@@ -1,0 +1,131 @@
+"""jobs.py - jobs worked by hand, and random ones: written, checked and counted in a second way;
+boards made by Craft."""
+import random
+
+import boardref as ref
+import gen
+from craft import Craft, permutation_matrix
+from elections import WORKED
+
+from .counts import second_count
+
+
+def sheets_of(board, n, K, rounds):
+    """Rounds, outs and counts read straight off the sheets by their known places."""
+    outs, counts, place = [], [], ref.HD_LENGTH + K * ref.ba_length(n)
+    for m in range(1, rounds + 1):
+        if m > 1:
+            place += K * ref.sh_length(n, n - m + 1)
+        assert board[place:place + 2] == b'RT' and board[place + 2] == m
+        outs.append(board[place + 3])
+        counts.append([int.from_bytes(board[place + 4 + 6 * i:place + 6 + 6 * i], 'big')
+                       for i in range(n)])
+        place += ref.rt_length(n)
+    assert place == len(board)
+    return outs, counts
+
+
+def small_group(rng, least_q):
+    """(p, q, g0) with q >= least_q and a small p."""
+    while True:
+        if rng.random() < 0.8:
+            p, q = rng.choice([f for f in gen.FIXED if f[0] < 3000])
+        else:
+            p, q = gen.random_pq(rng, rng.randrange(3, 12), 14)
+        if q >= least_q:
+            return p, q, gen.elements_g0(rng, p, q)
+
+
+def random_job(rng, i):
+    """A job in a small group and its plain count; n is large in one of 60."""
+    n = rng.choice((2, 2, 3, 3, 3, 4, 4, 5)) if i % 60 else rng.randrange(6, 9)
+    K = rng.randrange(1, 9 if n < 4 else 7 if n < 6 else 4)
+    p, q, g0 = small_group(rng, max(n, K) + 1)
+    label, counter = gen.label_counter(rng, p, q, g0)
+    lists = gen.rankings_of(rng, n, K, rng.choice(gen.STYLES))
+    plain = ref.plain_count(n, lists)
+    assert plain == second_count(n, lists)
+    rounds, counts = plain[:2]
+    assert all(sum(c) == K for c in counts)
+    draws = gen.make_draws(rng, q, ref.draws_needed(n, K, rounds),
+                           rng.choice(('random', 'random', 'ones', 'tops', 'edges')))
+    flat = [x for r in lists for x in r]
+    return gen.Job(n, K, p, q, g0, counter, label, flat, draws,
+                   ref.board_length(n, K, rounds)), plain
+
+
+def written_as_counted(job, plain):
+    """The writer's answer, once the checker and the sheets agree with the plain count."""
+    rounds, counts, outs, winner = plain
+    answer = ref.write(*job)
+    assert answer[0] == 'written' and answer[2:] == (rounds, outs, winner)
+    assert ref.check(answer[1]) == ('accepted', rounds, outs, winner)
+    assert sheets_of(answer[1], job.n, job.K, rounds) == (outs + [0], counts)
+    return answer
+
+
+def worked_jobs():
+    """The elections of elections.py that have rankings, written and checked."""
+    rng = random.Random(4)
+    for _, n, K, rankings, counts, outs, winner, _ in WORKED:
+        if rankings:
+            group = small_group(rng, max(n, K) + 1)
+            label, counter = gen.label_counter(rng, *group)
+            draws = gen.make_draws(rng, group[1], ref.draws_needed(n, K, len(counts)))
+            job = gen.Job(n, K, *group, counter, label, [x for r in rankings for x in r], draws,
+                          ref.board_length(n, K, len(counts)))
+            written_as_counted(job, (len(counts), counts, outs, winner))
+
+
+def job_varied(rng, job, answer):
+    """Spare draws and room change nothing; a job or a board with one fault is refused."""
+    def written(**changes):
+        return ref.write(*job._replace(**changes))
+    draws, length, flat = job.draws, job.out_len, job.rankings
+    _, board, rounds, _, _ = answer
+    assert written(draws=draws + [0, 2 ** 32 - 1], out_len=length + 5) == answer
+    assert written(draws=draws[:-1]) == ('refused', 14, 0)
+    assert written(out_len=length - 1) == ('refused', 15, 0)
+    place = rng.randrange(len(draws))
+    for bad in (0, job.q):
+        assert written(draws=draws[:place] + [bad] + draws[place + 1:]) == ('refused', 14, 0)
+    place = rng.randrange(len(flat))
+    worse = flat[:place] + [rng.choice((0, job.n + 1))] + flat[place + 1:]
+    assert written(rankings=worse) == ('refused', 13, place // job.n + 1)
+    assert ref.check(board[:-1]) == ('refused', 1, rounds * (job.K + 1))
+    assert ref.check(board + b'\0') == ('refused', 12, rounds * (job.K + 1) + 1)
+
+
+def answer_after_flip(rng, board):
+    """The refusal number, or 'accepted', once one bit of the board is flipped."""
+    place = rng.randrange(len(board))
+    broken = board[:place] + bytes([board[place] ^ (1 << rng.randrange(8))]) + board[place + 1:]
+    verdict = ref.check(broken)
+    return verdict[1] if verdict[0] == 'refused' else verdict[0]
+
+
+def random_jobs(count, seed):
+    rng = random.Random(seed)
+    rounds_seen, refusals = {}, {}
+    for i in range(count):
+        job, plain = random_job(rng, i)
+        answer = written_as_counted(job, plain)
+        seen = (job.n, plain[0])
+        rounds_seen[seen] = rounds_seen.get(seen, 0) + 1
+        if i % 10 == 0:
+            job_varied(rng, job, answer)
+        # a byte changed anywhere never leaves the board accepted (t1, t2 and label are hashed,
+        # all else is bound by an equation) except by luck in a tiny group
+        key = answer_after_flip(rng, answer[1])
+        refusals[key] = refusals.get(key, 0) + 1
+    return rounds_seen, refusals
+
+
+def craft_and_write_agree():
+    """Craft's honest boards are accepted too, and its proofs are read by the same rules."""
+    rng = random.Random(8)
+    for group in (gen.HOUSE, (23, 11, 2)):
+        label, counter = gen.label_counter(rng, *group)
+        c = Craft(3, 1, *group, counter, label, 3)
+        board = c.header() + c.ballot(1, permutation_matrix(3, [2, 1, 3])) + c.sheet(1, 0)
+        assert ref.check(board) == ('accepted', 1, [], 2)
