@@ -11,7 +11,7 @@ use lib.ListN.{length}
 use borrow.Author.Tests.{leb-true, le-leb, ltb-true, ltb-false, eqb-true, eqb-false, ne-eqb, not-true, not-false}
 use Rattle.numbers.proofs.Tests.{by-cases}
 use Rattle.rules.specs.Count.{Standing, roundNumber, member, countOf, countIn, fewer, behind, stillIn, pick, leaves, wins}
-use Rattle.rules.proofs.Leaving.{In, pick-in}
+use Rattle.rules.proofs.Leaving.{In, pick-in, leaves-in}
 use Rattle.rules.proofs.Fewer.{decided-same, decided-false, fewer-agree, fewer-at, fewer-asym, fewer-not, fewer-trans, behind-is}
 use Rattle.whole.specs.EqualCounts.{EqualSince, LatestDiffers, AllAgree, StillIn, GoesOut, Wins, AllDifferent, EqualCounts}
 
@@ -233,6 +233,7 @@ module _ (n : ℕ) (st : Standing) (counts : List ℕ) where
 pub equal-counts : EqualCounts
 equal-counts =
     record {
+      some-in = λ n st l. (leaves n st [], still-of n st (leaves n st []) (leaves-in n st [] l));
       out-iff = λ n st counts d h c. (λ e. rw (← e) (goes-out n st counts d h), λ g. one-out n st counts (leaves n st counts) c (goes-out n st counts d h) g);
       wins-iff = λ n st counts d h c. (λ e. rw (← e) (winner n st counts d h), λ g. one-wins n st counts (wins n st counts) c (winner n st counts d h) g);
       out-narrows = λ n st counts c d r g h q since l. left n st counts c d r since l _ (λ e. omega (arith, e)) (λ w. omega (arith, g .fewer d r h q w));

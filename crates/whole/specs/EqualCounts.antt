@@ -49,6 +49,8 @@ module _ (n : ℕ) (st : Standing) (counts : List ℕ) where
 
 -- wherever a process is still in
 pub record EqualCounts : Type 0 where
+  -- which is so while fewer than n have gone out, so in every round of a count: one goes out a round, and round n - 1 closes it (`closes`)
+  pub some-in : (n : ℕ) (st : Standing) → length (st .gone) < n → (d : ℕ) × StillIn n st d
   pub out-iff : (n : ℕ) (st : Standing) (counts : List ℕ) (d : ℕ) → StillIn n st d → (c : ℕ) → (leaves n st counts ≡ c) ↔ GoesOut n st counts c
   pub wins-iff : (n : ℕ) (st : Standing) (counts : List ℕ) (d : ℕ) → StillIn n st d → (c : ℕ) → (wins n st counts ≡ c) ↔ Wins n st counts c
   -- "equal ones left after that round are compared in the one before it, and so on": of those equal to it in this round and in all since round r
