@@ -5,6 +5,7 @@ import re
 
 import boardref as ref
 import gen
+import message_cases
 import mutate
 from boardref import be
 from covered import BIG, BOARDS, PLACED, PLACES, Cases, Pool, place
@@ -131,7 +132,7 @@ def frames(cases, base):
             cases.add('%s.cut.%d-bytes' % (base.name, length), base.board[:length],
                       ('refused', 1, record), '1 ' + place(record, count))
         mark = next(f for f in base.fields if f.record == record and f.kind == 'mark')
-        other = {'HD': 'BA', 'BA': 'SH', 'SH': 'BA', 'RT': 'SH'}[mark[1]]
+        other = {'HF': 'BA', 'BA': 'SH', 'SH': 'BA', 'RT': 'SH'}[mark[1]]
         value = (mark[1][0] + '\0', 'X' + mark[1][1], other)[record % 3].encode()
         cases.add('%s.record%d.mark=%s' % (base.name, record, value.hex()),
                   base.put(mark, int.from_bytes(value, 'big')), ('refused', 2, record),
@@ -156,7 +157,7 @@ def header_places(cases, base):
             ('g1', (0, g0, g1 + p, p - g1), '5 middle'),
             ('label', (label ^ 1 << 255, label ^ 1), '5 last')):
         for i, value in enumerate(values):
-            name = '%s.hd.%s' % (base.name, kind)
+            name = '%s.hf.%s' % (base.name, kind)
             cases.add(name + ('.bit%d' % (255 * (1 - i)) if kind == 'label' else '=%d' % value),
                       base.put(F[kind], value), ('refused', int(cover[0]), 0), cover)
 
@@ -362,6 +363,7 @@ def boards():
     false_proofs(cases, pool)
     false_sheets(cases, pool)
     ties(cases, pool)
+    message_cases.boards(cases, pool, two)
     sound(cases, rng)
     large(cases, rng)
     return cases

@@ -43,6 +43,12 @@ BOARDS = {
     'entry2': 'an entry of 2 with a -1 beside it',
     'sums': 'rows or columns that do not sum to 1',
     'equation': 'one equation, or the sum of challenges, fails and all else holds',
+    'message.entry': 'the challenge of another message, all else as due: entry proofs',
+    'message.row': 'the challenge of another message, all else as due: row proofs',
+    'message.col': 'the challenge of another message, all else as due: column proofs',
+    'message.shift': 'the challenge of another message, all else as due: shift proofs',
+    'moved': 'a sound proof, moved to another place, ballot or shift that claims the same',
+    'model': 'boards of 01: 2 with the mark HD, 8 with HF',
     'struck': 'another row or process struck, an entry changed, ballots from elsewhere',
     'forged': 'forged boards of tiny groups',
     'ties': 'ties, broken rightly and wrongly',
@@ -113,7 +119,7 @@ FINDS = {
 }
 
 # rows that are counted by place, with the places that they have
-PLACED = {key: PLACES for key in BOARDS if key[0].isdigit()}
+PLACED = {key: PLACES for key in BOARDS if key[0].isdigit() or key.startswith('message.')}
 PLACED['3'] = PLACED['4'] = ('first', 'last')
 JOB_PLACED = {key: PLACES for key in ('5', '13', '14', '15')}
 JOB_PLACED['3'] = JOB_PLACED['4'] = ('first', 'last')

@@ -246,6 +246,7 @@ def damaged(cases, base, walk):
     board_cases.headers(to)
     board_cases.frames(to, base)
     board_cases.numbers(to, base, 'BA')
+    to.add(base.name + '.hd', b'HD' + base.board[2:], ('refused', 2, 0))
 
 
 def whatever_is_asked(cases, walk):
@@ -291,9 +292,9 @@ def two_faults(cases, walk):
                                  ('n', records[0][:2] + b'\1' + records[0][3:], 3),
                                  ('q', records[0][:9] + be(4, 4) + records[0][13:], 4),
                                  ('g1', records[0][:18] + be(1, 4) + records[0][22:], 5)):
-        cases.refused('%s.hd.%s-and-number-1' % (walk.name, name),
+        cases.refused('%s.hf.%s-and-number-1' % (walk.name, name),
                       walk.but({0: header, 1: late[1]}), walk.rising, number, 0, 'two')
-        cases.refused('%s.hd.%s-and-cut' % (walk.name, name), header, walk.rising, number, 0, 'two')
+        cases.refused('%s.hf.%s-and-cut' % (walk.name, name), header, walk.rising, number, 0, 'two')
 
 
 def moved(cases, walk):

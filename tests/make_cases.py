@@ -4,9 +4,10 @@
 
   python3 tests/make_cases.py [--check]
 
-It writes stdin and stdout of the three in crates/, and prints what the cases cover.  Every run makes
-the same bytes.  No program under test has a part in it.  With --check it writes nothing, and ends
-with 1 where a stored file is not what it makes.
+It writes stdin and stdout of the three in crates/, and of boardcheck, whose input is the board
+`three` of the cases, and prints what the cases cover.  Every run makes the same bytes.  No program
+under test has a part in it.  With --check it writes nothing, and ends with 1 where a stored file is
+not what it makes.
 
 The input is a run of frames, to its end.  Every number is of 4 bytes, unsigned, high byte first; a
 piece is its length, a number, and then its bytes.
@@ -92,11 +93,22 @@ def make(cases, one):
     return b''.join(frame for frame, _ in made), ''.join(line for _, line in made).encode()
 
 
-def store(crate, cases, files):
+def sample(cases):
+    """01's board of three rankings, and the text that 01 has for it."""
+    board = next(item.case for item in cases.items if item.name == 'three')
+    text = 'accepted\nrounds 2\nout 3\nwinner 1\n'
+    assert len(board) == 2534 and ref.boardcheck(board) == text
+    return board, text.encode()
+
+
+def store(crate, files):
     for name, data in files:
         with open(path('crates', crate, name), 'wb') as f:
             f.write(data)
-    print('%s: %d cases, %d bytes' % (crate, len(cases.items), len(files[0][1])))
+
+
+def show(crate, cases, size):
+    print('%s: %d cases, %d bytes' % (crate, len(cases.items), size))
     print('| covered | cases: first, middle, last place |\n|---|---|')
     for text, numbers in cases.rows():
         print('| %s | %s |' % (text, ', '.join('-' if x is None else str(x) for x in numbers)))
@@ -104,15 +116,20 @@ def store(crate, cases, files):
 
 def main(check):
     comparison = Comparison()
-    for crate, cases, one in (('cases', board_cases.boards(), board_case),
-                              ('job_cases', job_cases.jobs(), job_case),
-                              ('find_cases', find_cases.finds(), find_case)):
-        files = list(zip(('stdin', 'stdout'), make(cases, one)))
+    boards = board_cases.boards()
+    lists = (('cases', boards, board_case), ('job_cases', job_cases.jobs(), job_case),
+             ('find_cases', find_cases.finds(), find_case))
+    made = {crate: make(cases, one) for crate, cases, one in lists}
+    made['boardcheck'] = sample(boards)
+    for crate, data in made.items():
+        files = list(zip(('stdin', 'stdout'), data))
         if check:
             comparison.compare(crate + ', stored files', [content('crates', crate, name) == data
                                                           for name, data in files], [True, True])
         else:
-            store(crate, cases, files)
+            store(crate, files)
+    for crate, cases, _ in lists if not check else ():
+        show(crate, cases, len(made[crate][0]))
     return comparison.status()
 
 

@@ -1,11 +1,12 @@
 #!/usr/bin/env python3
-"""mutants.py - are the stored cases of the test programs `cases` and `find_cases` sharp enough?
+"""mutants.py - are the stored cases of the test programs `cases`, `find_cases` and `job_cases` sharp
+enough?
 
   python3 tests/mutants.py
 
-Each mutant is the reference's checker, or its finder of receipts, with one rule spoilt by a change of
-its text.  Prints for each the smallest stored case on which it answers otherwise; one that answers
-like the reference on all of them is reported, and the exit status is 1.  Takes a minute."""
+Each mutant is the reference's checker, its finder of receipts or its writer, with one rule spoilt by a
+change of its text.  Prints for each the smallest stored case on which it answers otherwise; one that
+answers like the reference on all of them is reported, and the exit status is 1.  Takes two minutes."""
 import collections
 import os
 import sys
@@ -13,6 +14,8 @@ import types
 
 import stored
 from stored import HERE
+
+import message_mutants
 
 # the modules of the reference, each after those that it imports
 MODULES = ('board.sizes', 'board.group', 'board.proofs', 'board.count', 'board.plain_count',
@@ -45,8 +48,8 @@ CHECKERS = [
      "for statement, (t1, t2, r) in zip(branch, lines, strict=True):",
      "for statement, (t1, t2, r) in checked(claim, branch, lines, 2):"),
     ('proof: challenges reduced modulo p',
-     "return sum(e for e, _ in proof) % group.q == challenge(group, proof)",
-     "return sum(e for e, _ in proof) % group.p == challenge(group, proof)"),
+     "return sum(e for e, _ in proof) % group.q == c",
+     "return sum(e for e, _ in proof) % group.p == c"),
     ('proof: only the first branch', "for branch, (e, lines) in zip(claim, proof, strict=True):",
      "for branch, (e, lines) in list(zip(claim, proof))[:1]:"),
     ('proof: all but the last branch of more',
@@ -63,16 +66,14 @@ CHECKERS = [
      "for statement, (t1, t2, r) in [z for i, z in enumerate(zip(branch, lines)) if i != 0 or len(branch) == 1]:"),
     ('proof: a true branch is enough', "            if not statement_holds(group, statement, e, t1, t2, r):\n                return False\n    #",
      "            if not statement_holds(group, statement, e, t1, t2, r):\n                break\n        else:\n            return True\n    #"),
-    ('proof: no sum test', "return sum(e for e, _ in proof) % group.q == challenge(group, proof)",
+    ('proof: no sum test', "return sum(e for e, _ in proof) % group.q == c",
      "return True"),
     ('proof: sum not reduced',
-     "return sum(e for e, _ in proof) % group.q == challenge(group, proof)",
-     "return sum(e for e, _ in proof) == challenge(group, proof)"),
+     "return sum(e for e, _ in proof) % group.q == c",
+     "return sum(e for e, _ in proof) == c"),
     ('statement: second equation left', "\n            and power(group, group.g1, r) == times(group, t2, power(group, B, e)))", ")"),
     ('statement: first equation left',
      "power(group, group.g0, r) == times(group, t1, power(group, A, e))", "True"),
-    ('challenge: t2 left out', "            parts.append(t2.to_bytes(4, 'big'))\n", ""),
-    ('challenge: label left out', "message = group.label", "message = b''"),
     ('challenge: first 4 bytes', "return int.from_bytes(digest[:8], 'big') % group.q",
      "return int.from_bytes(digest[:4], 'big') % group.q"),
     ('closes at half', "if 2 * counts[i - 1] > standing.K:", "if 2 * counts[i - 1] >= standing.K:"),
@@ -110,12 +111,12 @@ CHECKERS = [
      "        if product_of(group, [M[0][i] for M in matrices])[1] != pair_of(group, sums[i], counts[i])[1]:"),
     ('tally: first round alone', "    for i in range(n):\n        if product_of(group, [M[0][i]",
      "    for i in range(n if standing.m == 1 else 0):\n        if product_of(group, [M[0][i]"),
-    ('entry proofs left', "            if not proof_holds(group, entry_claim(group, matrix[i][j]), entry_proofs[i][j]):",
-     "            if False:"),
-    ('row proofs left', "        if not proof_holds(group, line_claim(group, matrix[i]), row_proofs[i]):", "        if False:"),
-    ('column proofs left', "        if not proof_holds(group, line_claim(group, column), column_proofs[j]):", "        if False:"),
+    ('entry proofs left', "            test(entry_place(n, i, j), entry_claim(group, matrix[i][j]), entry_proofs[i][j])",
+     "            pass"),
+    ('row proofs left', "        test(row_place(n, i), line_claim(group, matrix[i]), row_proofs[i])", "        pass"),
+    ('column proofs left', "        test(column_place(n, j), line_claim(group, column), column_proofs[j])", "        pass"),
     ('row not over g1', "return [[(over(group, b, group.g1), y)]]", "return [[(b, y)]]"),
-    ('shift proofs waved through', "    if not proof_holds(group, shift_claim(group, previous, matrix, a), proof):", "    if False:"),
+    ('shift proofs waved through', "    if not proof_holds(group, Context(b'SH', k, m, 0), claim, proof):", "    if False:"),
     ('6 not tested in BA', "due | 6\"\n    if reading.number(2) != k:\n        reading.refuse(6)\n", "due | 6\"\n    reading.number(2)\n"),
     ('6 not tested in SH', "    if reading.number(2) != k:\n        reading.refuse(6)\n    matrix = read_matrix(reading, group, R, n)",
      "    reading.number(2)\n    matrix = read_matrix(reading, group, R, n)"),
@@ -123,12 +124,14 @@ CHECKERS = [
     ('6 by low byte', "due | 6\"\n    if reading.number(2) != k:",
      "due | 6\"\n    if reading.number(2) % 256 != k % 256:"),
     ('8 before the rest of the walk', "    row_proofs = [read_proof",
-     "    for i in range(n):\n        for j in range(n):\n            if not proof_holds(group, entry_claim(group, matrix[i][j]), entry_proofs[i][j]):\n                reading.refuse(8)\n    row_proofs = [read_proof"),
+     "    for i in range(n):\n        for j in range(n):\n            if not proof_holds(group, Context(b'BA', k, 1, entry_place(n, i, j)), entry_claim(group, matrix[i][j]), entry_proofs[i][j]):\n                reading.refuse(8)\n    row_proofs = [read_proof"),
     ('12 not tested', "    if reading.left() > 0:\n        reading.refuse(12)\n", ""),
     ('12 names the last record', "    if reading.left() > 0:\n        reading.refuse(12)\n",
      "    if reading.left() > 0:\n        reading.record -= 1\n        reading.refuse(12)\n"),
     ('2 before 1', "        if self.left() < length:\n            self.refuse(1)\n",
      "        if self.left() < 2:\n            self.refuse(1)\n        if self.board[self.next:self.next + 2] != mark:\n            self.refuse(2)\n        if self.left() < length:\n            self.refuse(1)\n"),
+    ('HD let in beside HF', "reading.open(b'HF', HF_LENGTH)", "reading.open(b'HD' if reading.board[:2] == b'HD' else b'HF', HF_LENGTH)"),
+    ('HD for HF', "reading.open(b'HF', HF_LENGTH)", "reading.open(b'HD', HF_LENGTH)"),
     ('marks not tested', "if self.take(2) != mark:", "if self.take(2) is None:"),
     ('mark: first byte alone', "if self.take(2) != mark:", "if self.take(2)[0] != mark[0]:"),
     ('records numbered from 1', "self.record = 0", "self.record = 1"),
@@ -223,7 +226,8 @@ FINDERS = [
      "    if reading.left() >= ba_length(n) and reading.board[reading.next + 2:reading.next + 4] != bytes([k // 256, k % 256]):\n        reading.refuse(6)\n    reading.open(b'BA', ba_length(n))\n"),
     ('2 before 1', "        if self.left() < length:\n            self.refuse(1)\n",
      "        if self.left() >= 2 and self.board[self.next:self.next + 2] != mark:\n            self.refuse(2)\n        if self.left() < length:\n            self.refuse(1)\n"),
-    ('2 not tested in HD', "reading.open(b'HD', HD_LENGTH)", "reading.open(reading.board[:2], HD_LENGTH)"),
+    ('HD let in', "reading.open(b'HF', HF_LENGTH)", "reading.open(b'HD' if reading.board[:2] == b'HD' else b'HF', HF_LENGTH)"),
+    ('2 not tested in HF', "reading.open(b'HF', HF_LENGTH)", "reading.open(reading.board[:2], HF_LENGTH)"),
     ('3 not tested', "    if not sizes_hold(n, K):\n        reading", "    if False:\n        reading"),
     ('4 not tested', "    if not group_holds(n, K, p, q):\n        reading", "    if False:\n        reading"),
     ('5 not tested of g0', "    if not g0_holds(p, q, g0):\n        reading", "    if False:\n        reading"),
@@ -290,6 +294,7 @@ def load(texts):
         module = types.ModuleType(name)
         module.__package__ = name.rpartition('.')[0]
         module.checked, module.early = checked, early
+        module.other, module.other_places = message_mutants.other, message_mutants.OTHER_PLACES
         sys.modules[name] = module                    # the modules after it import this one
         exec(compile(text, name, 'exec'), module.__dict__)
     return module
@@ -302,6 +307,21 @@ def boards():
 def ties():
     """The boards made for equal counts: to ask all the others before them would take long."""
     return [question for question in boards() if question.case.startswith(('equal.', 'otherwise.'))]
+
+
+def messages(kind):
+    """The boards with the challenge of another message, by kind of proof."""
+    words = {'entry': ('-entry-',), 'line': ('-row-', '-col-'), 'shift': ('-round-',),
+             'place': ('-entry-', '-row-', '-col-')}[kind]
+    return [question for question in boards() if question.case.startswith('message-')
+            and any(word in question.case for word in words)]
+
+
+def jobs():
+    """The jobs of small boards and the one of the most ballots."""
+    return [Question(job.name, 'write', (job.n, job.K, job.p, job.q, job.g0, job.counter, job.label,
+                                         job.rankings, job.draws, job.room))
+            for job in stored.jobs() if job.room < 3000 or job.name == 'thousand']
 
 
 def finds():
@@ -340,6 +360,10 @@ def main():
     left = []
     for what, mutants, questions in (('checkers', CHECKERS, boards()),
                                      ('checkers, equal counts', COUNTS, ties()),
+                                     ('checkers, messages', message_mutants.CHECKERS, boards()),
+                                     *[('checkers, messages beside, ' + kind, mutants, messages(kind))
+                                       for kind, mutants in message_mutants.BESIDE.items()],
+                                     ('writers, messages', message_mutants.WRITERS, jobs()),
                                      ('finders', FINDERS, finds())):
         some = survivors(texts, mutants, questions)
         print('%s: %d mutants, %d survive' % (what, len(mutants), len(some)))

@@ -53,7 +53,7 @@ static size_t header_fault(struct board *board)
     if (board->length < HEADER_LENGTH) {
         return PLAIN_LENGTH;
     }
-    if (!has_mark(bytes, "HD")) {
+    if (!has_mark(bytes, "HF")) {
         return PLAIN_MARK;
     }
     board->n = bytes[2];

@@ -32,12 +32,17 @@ static size_t ballot_size(size_t n)
     return 4 + 40 * n * n + 32 * n;
 }
 
-static bool entries_hold(const struct board *board, const uint8_t *pairs, const uint8_t *proofs)
+static bool entries_hold(const struct board *board, const uint8_t *record, const uint8_t *proofs)
 {
     size_t n = board->n;
 
     for (size_t t = 0; t < n * n; t++) {
-        struct claim claim = {.kind = ENTRY, .row = t / n, .column = t % n, .pairs = pairs};
+        struct claim claim = {.kind = ENTRY,
+                              .record = record,
+                              .round = 1,
+                              .place = t,
+                              .row = t / n,
+                              .column = t % n};
         if (!proof_holds(board, proofs + 32 * t, 2, 1, &claim)) {
             return false;
         }
@@ -45,19 +50,18 @@ static bool entries_hold(const struct board *board, const uint8_t *pairs, const 
     return true;
 }
 
-static bool lines_hold(const struct board *board, const uint8_t *pairs, const uint8_t *proofs)
+static bool lines_hold(const struct board *board, const uint8_t *record, const uint8_t *proofs)
 {
     size_t n = board->n;
 
-    for (size_t i = 0; i < n; i++) {
-        struct claim claim = {.kind = ROW, .row = i, .pairs = pairs};
-        if (!proof_holds(board, proofs + 16 * i, 1, 1, &claim)) {
-            return false;
-        }
-    }
-    for (size_t j = 0; j < n; j++) {
-        struct claim claim = {.kind = COLUMN, .column = j, .pairs = pairs};
-        if (!proof_holds(board, proofs + 16 * (n + j), 1, 1, &claim)) {
+    for (size_t t = 0; t < 2 * n; t++) {
+        struct claim claim = {.kind = t < n ? ROW : COLUMN,
+                              .record = record,
+                              .round = 1,
+                              .place = n * n + t,
+                              .row = t % n,
+                              .column = t % n};
+        if (!proof_holds(board, proofs + 16 * t, 1, 1, &claim)) {
             return false;
         }
     }
@@ -73,8 +77,8 @@ static size_t ballot_fault(const struct board *board, size_t at, size_t ballot)
     if (fault != PLAIN_ACCEPTED) {
         return fault;
     }
-    const uint8_t *pairs = board->bytes + at + 4;
-    const uint8_t *entries = pairs_walk(g, pairs, n * n);
+    const uint8_t *record = board->bytes + at;
+    const uint8_t *entries = pairs_walk(g, pairs_of(record), n * n);
     if (entries == NULL) {
         return PLAIN_FIELD;
     }
@@ -82,7 +86,7 @@ static size_t ballot_fault(const struct board *board, size_t at, size_t ballot)
     if (lines == NULL || branches_walk(g, lines, 2 * n, 1) == NULL) {
         return PLAIN_FIELD;
     }
-    if (!entries_hold(board, pairs, entries) || !lines_hold(board, pairs, lines)) {
+    if (!entries_hold(board, record, entries) || !lines_hold(board, record, lines)) {
         return PLAIN_PROOF;
     }
     return PLAIN_ACCEPTED;
@@ -94,15 +98,17 @@ static size_t shift_size(size_t n, size_t rows)
 }
 
 /* The proof that the pairs are those before with a row struck. */
-static bool shift_holds(const struct board *board, const uint8_t *pairs, const uint8_t *proof,
+static bool shift_holds(const struct board *board, const uint8_t *record, const uint8_t *proof,
                         const uint8_t *before, size_t rows, size_t column)
 {
     const struct group *g = &board->group;
     size_t n = board->n;
     uint32_t inverses[MOST_WORDS];
     struct claim claim = {.kind = SHIFT,
+                          .record = record,
+                          .round = n - rows + 1,
+                          .place = 0,
                           .column = column,
-                          .pairs = pairs,
                           .before = before,
                           .inverses = inverses};
 
@@ -123,12 +129,13 @@ static size_t shift_fault(const struct board *board, size_t at, size_t before, s
     if (fault != PLAIN_ACCEPTED) {
         return fault;
     }
-    const uint8_t *pairs = board->bytes + at + 4;
-    const uint8_t *proof = pairs_walk(g, pairs, rows * n);
+    const uint8_t *record = board->bytes + at;
+    const uint8_t *proof = pairs_walk(g, pairs_of(record), rows * n);
     if (proof == NULL || branches_walk(g, proof, rows + 1, 2 + rows * n) == NULL) {
         return PLAIN_FIELD;
     }
-    if (!shift_holds(board, pairs, proof, board->bytes + before + 4, rows, out - 1)) {
+    const uint8_t *pairs_before = pairs_of(board->bytes + before);
+    if (!shift_holds(board, record, proof, pairs_before, rows, out - 1)) {
         return PLAIN_PROOF;
     }
     return PLAIN_ACCEPTED;

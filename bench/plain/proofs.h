@@ -53,11 +53,18 @@ enum kind { ENTRY, ROW, COLUMN, SHIFT };
 
 struct claim {
     enum kind kind;
+    const uint8_t *record;
+    size_t round, place;      /* the round, from 1; the proof's place in the record, from 0 */
     size_t row, column;       /* of a shift, the column of the process that went out */
-    const uint8_t *pairs;     /* the record's pairs */
     const uint8_t *before;    /* of a shift, the ballot's pairs of the round before */
     const uint32_t *inverses; /* of a shift, the inverses of those */
 };
+
+/* A ballot's or shift's pairs stand behind its mark and number. */
+static const uint8_t *pairs_of(const uint8_t *record)
+{
+    return record + 4;
+}
 
 /* The product of count words, stride bytes apart, but for the one numbered out. */
 static uint32_t product(uint32_t p, const uint8_t *at, size_t stride, size_t count, size_t out)
@@ -111,7 +118,7 @@ static struct statement shift_statement(const struct board *board, const struct 
     }
     size_t new = i - 2;
     size_t old = new / n < branch ? new : new + n;
-    const uint8_t *pair = claim->pairs + 8 * new;
+    const uint8_t *pair = pairs_of(claim->record) + 8 * new;
     const uint32_t *inverse = claim->inverses + 2 * old;
     return (struct statement){times(g->p, word(pair), inverse[0]),
                               times(g->p, word(pair + 4), inverse[1])};
@@ -121,7 +128,7 @@ static struct statement statement_of(const struct board *board, const struct cla
                                      size_t branch, size_t i)
 {
     const struct group *g = &board->group;
-    const uint8_t *pairs = claim->pairs;
+    const uint8_t *pairs = pairs_of(claim->record);
     size_t n = board->n;
 
     switch (claim->kind) {
@@ -148,6 +155,29 @@ static bool statement_holds(const struct group *g, struct statement s, const uin
            power(g->p, g->g1, response) == times(g->p, t2, power(g->p, s.right, challenge));
 }
 
+/* What a challenge's message has ahead of the statements: label, mark, number, round, place. */
+static void hash_context(struct hasher *h, const struct board *board, const struct claim *claim)
+{
+    uint8_t tail[3];
+
+    tail[0] = (uint8_t)claim->round;
+    put_half(tail + 1, (uint32_t)claim->place);
+    hash_update(h, board->bytes + LABEL_AT, LABEL_LENGTH);
+    hash_update(h, claim->record, 4);
+    hash_update(h, tail, sizeof tail);
+}
+
+/* A, B, t1, t2 of a statement whose commitments stand at a place. */
+static void hash_statement(struct hasher *h, struct statement s, const uint8_t *at)
+{
+    uint8_t words[16];
+
+    put_word(words, s.left);
+    put_word(words + 4, s.right);
+    memcpy(words + 8, at, 8);
+    hash_update(h, words, sizeof words);
+}
+
 static bool proof_holds(const struct board *board, const uint8_t *at, size_t branches,
                         size_t statements, const struct claim *claim)
 {
@@ -157,16 +187,17 @@ static bool proof_holds(const struct board *board, const uint8_t *at, size_t bra
     uint32_t sum = 0;
 
     hash_start(&h);
-    hash_update(&h, board->bytes + LABEL_AT, LABEL_LENGTH);
+    hash_context(&h, board, claim);
     for (size_t l = 0; l < branches; l++) {
         uint32_t challenge = word(at);
         sum = (uint32_t)(((uint64_t)sum + challenge) % g->q);
         at += 4;
         for (size_t i = 0; i < statements; i++) {
-            if (!statement_holds(g, statement_of(board, claim, l, i), at, challenge)) {
+            struct statement s = statement_of(board, claim, l, i);
+            if (!statement_holds(g, s, at, challenge)) {
                 return false;
             }
-            hash_update(&h, at, 8);
+            hash_statement(&h, s, at);
             at += 12;
         }
     }

@@ -1,14 +1,14 @@
 #!/usr/bin/env python3
 """selftest.py [jobs] [seed]  - asserts 01's hand-tried cases and elections with equal counts worked
 by hand, thousands of random elections and jobs, every refusal number, what the proof claims mean (by
-brute-force logarithms in p = 23), and receipts that are found in a second way.  The folder selftests
-has them, by subject."""
+brute-force logarithms in p = 23), the messages of challenges by hand and in a second way, and
+receipts that are found in a second way.  The folder selftests has them, by subject."""
 import sys
 import time
 
 sys.dont_write_bytecode = True
 
-from selftests import counts
+from selftests import counts, messages
 from selftests.claims import claims_mean_what_they_say
 from selftests.hand import hand_cases
 from selftests.jobs import craft_and_write_agree, random_jobs, worked_jobs
@@ -22,6 +22,7 @@ def main(count, seed):
     find_by_hand(board)
     counts.by_hand()
     worked_jobs()
+    messages.bytes_by_hand()
     print('hand-tried cases hold')
     ties = counts.random_elections(4 * count, seed)
     counts.random_standings(4 * count, seed)
@@ -32,6 +33,11 @@ def main(count, seed):
     claims_mean_what_they_say(seed)
     print('claims are true for the right lists and for no others')
     craft_and_write_agree()
+    messages.other_contexts()
+    print('a proof holds in its own context alone; refused are %d boards with another message or a '
+          'moved proof' % messages.refused_boards())
+    print('%d random boards: their challenges alike in two ways, %d of shifts among them'
+          % (count // 10, messages.random_messages(count // 10, seed)))
     seen = random_finds(count, seed)
     print('%d random boards: receipts found alike in two ways' % count)
     print('  answers:', dict(sorted(seen.items(), key=str)))

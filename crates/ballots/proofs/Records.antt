@@ -2,6 +2,7 @@
 use Prim.Native.Nat.{ℕ, _+_, _*_, _<_}
 use mathlib.Core.Path.{_≡_}
 use mathlib.Core.List.{List, _++_, append-assoc}
+use native.Mathlib.Nat.{add-assoc}
 use native.Mathlib.Omega.{arith}
 use lib.ListN.{length}
 use Rattle.numbers.specs.Below.{sumBelow, concatBelow}
@@ -31,24 +32,24 @@ module _ (label : List ℕ) (g : Parameters) (n number : ℕ) (list : ℕ → �
   abbrev pub headed : List ℕ
   headed = BA ++ bytes2 number
 
-  pub length-entries : (count : ℕ) → length (concatBelow count (entryIn label g n list draws from)) ≡ 32 * count
-  length-entries count = let e = length-blocks count 32 (entryIn label g n list draws from) (λ i h. length-proof sha256 label g _) in omega arith
+  pub length-entries : (count : ℕ) → length (concatBelow count (entryIn label g n number list draws from)) ≡ 32 * count
+  length-entries count = let e = length-blocks count 32 (entryIn label g n number list draws from) (λ i h. length-proof sha256 label g _) in omega arith
 
-  lines-are : concatBelow (n + n) (lineOf label g n M draws from) ≡ concatBelow n (λ i. proofBytes g (rowProver g n list draws from i) sha256 label) ++ concatBelow n (λ j. proofBytes g (columnProver g n list draws from j) sha256 label)
+  lines-are : concatBelow (n + n) (lineOf label g n number list draws from) ≡ concatBelow n (λ i. proofBytes g (rowProver g n number list draws from i) sha256 label) ++ concatBelow n (λ j. proofBytes g (columnProver g n number list draws from j) sha256 label)
   unfolding lineOf
   lines-are =
       blocks-lines n _ _ _
       (λ i l. rw (by-row n (rowClaim g n M) (columnClaim g n M) i l, by-row n rowSum columnSum i l))
       (λ j l.
       let e : from + 4 * (n * n) + (n + j) ≡ from + 4 * (n * n) + n + j = omega arith in
-      rw (by-column-of n (rowClaim g n M) (columnClaim g n M) j, by-column-of n rowSum columnSum j, e))
+      rw (by-column-of n (rowClaim g n M) (columnClaim g n M) j, by-column-of n rowSum columnSum j, e, add-assoc (n * n) n j))
 
   pub proofs-joined : 0 < n →
-      concatBelow (n * n) (entryIn label g n list draws from) ++ concatBelow (n + n) (lineOf label g n M draws from) ≡ ballotProofBytes sha256 label g n list draws from
+      concatBelow (n * n) (entryIn label g n number list draws from) ++ concatBelow (n + n) (lineOf label g n number list draws from) ≡ ballotProofBytes sha256 label g n number list draws from
   unfolding ballotProofBytes
-  proofs-joined h = rw (grid n n (λ i j. proofBytes g (entryProver g n list draws from i j) sha256 label) h, lines-are, append-assoc)
+  proofs-joined h = rw (grid n n (λ i j. proofBytes g (entryProver g n number list draws from i j) sha256 label) h, lines-are, append-assoc)
 
-  pub ballot-joined : (pairs : List ℕ) → pairs ≡ pairBytes n M n → (headed ++ pairs) ++ ballotProofBytes sha256 label g n list draws from ≡ ballotBytes sha256 label g n number list draws from
+  pub ballot-joined : (pairs : List ℕ) → pairs ≡ pairBytes n M n → (headed ++ pairs) ++ ballotProofBytes sha256 label g n number list draws from ≡ ballotBytes sha256 label g n number list draws from
   unfolding ballotBytes
   ballot-joined pairs e = rw e
 

@@ -12,6 +12,7 @@ use Rattle.rules.proofs.Sizes.{few-pairs}
 use Rattle.rules.specs.Bytes.{bytes2}
 use Rattle.rules.specs.Records.{SH}
 use Rattle.rules.specs.Claims.{matrixAt}
+use Rattle.rules.specs.Shift.{shiftContext}
 use Rattle.statements.specs.declared.claims.Claim.the-variants.{Shift as Shifted}
 use Rattle.statements.specs.Claims.{claimOf, Within, InverseTable}
 use Rattle.jobs.proofs.Matrices.{SameMatrix, shift-same}
@@ -46,7 +47,7 @@ module _ (g : Parameters) (s : Shift) (draws : List ℕ) (w : Shifting (g .p) (g
               enough = omega (arith, w .news .enough);
               below = λ d h. w .news .below d (omega arith);
             };
-        ready = λ l i h k m.
+        ready = λ l i h k.
             record {
               column = w .inside;
               branch = omega arith;
@@ -61,11 +62,11 @@ module _ (g : Parameters) (s : Shift) (draws : List ℕ) (w : Shifting (g .p) (g
   pub shift-proof-is : (label page : List ℕ) (t : List Exponent) → SameMatrix (s .rows + 1) (s .n) (matrixAt page (s .n) 0) (oldMatrix g s draws) →
       SameMatrix (s .rows) (s .n) (matrixAt page (s .n) 512) (newMatrix g s draws) →
       Witnessed (g .q) (s .n) draws (s .old) (s .new) (s .column) (s .struck) (2 + s .rows * s .n) t →
-      proofOf label g (claimOf page g (Shifted 0 512 (s .rows) (s .n) (s .column))) (record { plan = planOf (Shifted 0 512 (s .rows) (s .n) (s .column)) (s .rows + 1) (2 + s .rows * s .n) (s .struck) (s .new + s .rows * s .n); witness = t }) draws ≡ shiftProofOf label g s draws
+      proofOf label (shiftContext (s .round) (s .number)) g (claimOf page g (Shifted 0 512 (s .rows) (s .n) (s .column))) (record { plan = planOf (Shifted 0 512 (s .rows) (s .n) (s .column)) (s .rows + 1) (2 + s .rows * s .n) (s .struck) (s .new + s .rows * s .n); witness = t }) draws ≡ shiftProofOf label g s draws
   unfolding claimOf
   shift-proof-is label page t fo fn ft =
-      proof-same sha256 label g (λ d. getD draws d 0) (s .rows + 1) (2 + s .rows * s .n) (s .struck) (s .new + s .rows * s .n) _ _ _ _
-      (λ l i hl hi m. shift-same g (s .n) _ _ _ _ (s .rows) (s .column) l i fo fn (w .inside) hl hi) (ft .each)
+      proof-same sha256 label (shiftContext (s .round) (s .number)) g (λ d. getD draws d 0) (s .rows + 1) (2 + s .rows * s .n) (s .struck) (s .new + s .rows * s .n) _ _ _ _
+      (λ l i hl hi. shift-same g (s .n) _ _ _ _ (s .rows) (s .column) l i fo fn (w .inside) hl hi) (ft .each)
 
   pub shift-joined : (label pairs : List ℕ) → pairs ≡ pairBytes (s .n) (newMatrix g s draws) (s .rows) →
       (SH ++ bytes2 (s .number) ++ pairs) ++ shiftProofOf label g s draws ≡ shiftOf label g s draws

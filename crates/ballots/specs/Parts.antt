@@ -10,7 +10,9 @@ use Rattle.sha256.specs.Message.{sha256}
 use Rattle.group.specs.Elements.{Parameters}
 use Rattle.group.specs.declared.Exponent.{Exponent}
 use Rattle.rules.specs.Bytes.{Stands}
+use Rattle.rules.specs.Proofs.{Statement}
 use Rattle.rules.specs.Claims.{Matrix, rowClaim, columnClaim}
+use Rattle.rules.specs.Ballot.{ballotContext}
 use Rattle.statements.specs.Lines.{byLine}
 use Rattle.jobs.specs.Prover.{proofBytes}
 use Rattle.jobs.specs.Records.{secretAt, matrixOf, pairBytes, lineProver, entryProver, shiftWitness, shiftProver, shiftBytes}
@@ -29,15 +31,18 @@ sumBut draws at stride count but = sumBelow count (λ i. cond (eqb i but) 0 (get
 abbrev pub lineSum : (draws : List ℕ) (from n t : ℕ) → ℕ
 lineSum draws from n t = byLine n t (λ i. sumBelow n (λ j. secretAt n draws from i j)) (λ j. sumBelow n (λ i. secretAt n draws from i j))
 
-module _ (label : List ℕ) (g : Parameters) (n : ℕ) where
+module _ (label : List ℕ) (g : Parameters) (n number : ℕ) (list : ℕ → ℕ) (draws : List ℕ) (from : ℕ) where
   -- the c-th entry proof
-  abbrev pub entryIn : (list : ℕ → ℕ) (draws : List ℕ) (from c : ℕ) → List ℕ
-  entryIn list draws from c = proofBytes g (entryProver g n list draws from (c / n) (c % n)) sha256 label
+  abbrev pub entryIn : (c : ℕ) → List ℕ
+  entryIn c = proofBytes g (entryProver g n number list draws from (c / n) (c % n)) sha256 label
 
-  -- the proof of row t, or of column t - n; what the matrix is does not matter
-  unfoldable pub lineOf : Matrix → (draws : List ℕ) (from t : ℕ) → List ℕ
-  lineOf M draws from t =
-      proofBytes g (lineProver draws (byLine n t (rowClaim g n M) (columnClaim g n M)) (lineSum draws from n t) (from + 4 * (n * n) + t)) sha256 label
+  -- what row t says, or column t - n
+  abbrev pub lineSaid : (t : ℕ) → Statement
+  lineSaid t = byLine n t (rowClaim g n (matrixOf g n list draws from)) (columnClaim g n (matrixOf g n list draws from))
+
+  -- its proof, behind those of the entries
+  unfoldable pub lineOf : (t : ℕ) → List ℕ
+  lineOf t = proofBytes g (lineProver (ballotContext number (n * n + t)) draws (lineSaid t) (lineSum draws from n t) (from + 4 * (n * n) + t)) sha256 label
 
 -- the first so many witnesses, modulo q
 pub record Witnessed (q n : ℕ) (draws : List ℕ) (old new a l count : ℕ) (s : List Exponent) : Type 0 where
@@ -67,10 +72,10 @@ module _ (label : List ℕ) (g : Parameters) (s : Shift) (draws : List ℕ) wher
   abbrev pub shiftProofOf : List ℕ
   shiftProofOf =
       proofBytes g
-      (shiftProver g (s .n) (s .rows) (λ k. getD (s .before) k 0) (λ k. getD (s .after) k 0) (s .struck) (s .column) draws (s .old) (s .new))
+      (shiftProver g (s .n) (s .rows) (s .round) (s .number) (λ k. getD (s .before) k 0) (λ k. getD (s .after) k 0) (s .struck) (s .column) draws (s .old) (s .new))
       sha256 label
 
   abbrev pub shiftOf : List ℕ
   shiftOf =
-      shiftBytes sha256 label g (s .n) (s .rows) (s .number) (λ k. getD (s .before) k 0) (λ k. getD (s .after) k 0) (s .struck) (s .column) draws (s .old)
+      shiftBytes sha256 label g (s .n) (s .rows) (s .round) (s .number) (λ k. getD (s .before) k 0) (λ k. getD (s .after) k 0) (s .struck) (s .column) draws (s .old)
       (s .new)

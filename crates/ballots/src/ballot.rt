@@ -43,7 +43,7 @@ fn page_of(g: Group, n: usize, list: [u8; 8], draws: &[u32], from: usize) -> [u8
 // The entry proof of the c-th pair.
 fn write_entry(
     out: &mut [u8],
-    prefix: Hasher,
+    labelled: Hasher,
     g: Setup,
     b: Ballot,
     page: &[u8],
@@ -53,7 +53,7 @@ fn write_entry(
     requires { ⌜ Ready g × (0 < b .n) × (b .n ≤ 8) × (c < b .n * b .n) × (32 ≤ length (now out)) × (516 ≤ length (now page)) ⌝ }
     requires { ⌜ DrawsBelow (g .group .q) (now draws) (b .from) (4 * (b .n * b .n) + 2 * b .n) ⌝ }
     requires { ⌜ Paged (now page) 0 (b .n) (b .n) (matrixOf (parametersOf (g .group)) (b .n) (λ k. getD (b .list) k 0) (now draws) (b .from)) ⌝ }
-    ensures { λ _. ⌜ ((m : List ℕ) → Fed prefix m → now (out .exit) ≡ written (entryIn m (parametersOf (g .group)) (b .n) (λ k. getD (b .list) k 0) (now (draws .entry)) (b .from) c) (now (out .entry))) ⌝ }
+    ensures { λ _. ⌜ ((m : List ℕ) → Fed labelled m → now (out .exit) ≡ written (entryIn m (parametersOf (g .group)) (b .n) (b .number) (λ k. getD (b .list) k 0) (now (draws .entry)) (b .from) c) (now (out .entry))) ⌝ }
 {
     let n = b.n;
     let list = b.list;
@@ -72,35 +72,36 @@ fn write_entry(
     let witness = [Exponent(draws[at]); 64];
     let maker = Maker { plan, witness };
     let no_inverses = [0u32; 0];
+    let prefix = challenges::feed_context(labelled, layout::BA, b.number, 1, c);
     proving::make(out, prefix, g, page, &no_inverses, maker, draws);
 }
 
-fn write_entries(out: &mut [u8], prefix: Hasher, g: Setup, b: Ballot, page: &[u8], draws: &[u32])
+fn write_entries(out: &mut [u8], labelled: Hasher, g: Setup, b: Ballot, page: &[u8], draws: &[u32])
     requires { ⌜ Ready g × (0 < b .n) × (b .n ≤ 8) × (32 * (b .n * b .n) ≤ length (now out)) × (516 ≤ length (now page)) ⌝ }
     requires { ⌜ DrawsBelow (g .group .q) (now draws) (b .from) (4 * (b .n * b .n) + 2 * b .n) ⌝ }
     requires { ⌜ Paged (now page) 0 (b .n) (b .n) (matrixOf (parametersOf (g .group)) (b .n) (λ k. getD (b .list) k 0) (now draws) (b .from)) ⌝ }
-    ensures { λ _. ⌜ ((m : List ℕ) → Fed prefix m → now (out .exit) ≡ written (concatBelow (b .n * b .n) (entryIn m (parametersOf (g .group)) (b .n) (λ k. getD (b .list) k 0) (now (draws .entry)) (b .from))) (now (out .entry))) ⌝ }
+    ensures { λ _. ⌜ ((m : List ℕ) → Fed labelled m → now (out .exit) ≡ written (concatBelow (b .n * b .n) (entryIn m (parametersOf (g .group)) (b .n) (b .number) (λ k. getD (b .list) k 0) (now (draws .entry)) (b .from))) (now (out .entry))) ⌝ }
 {
     let n = b.n;
     let count = n * n;
     for c in 0..count {
         let at = 32 * c;
-        write_entry(&mut out[at..], prefix, g, b, page, draws, c);
+        write_entry(&mut out[at..], labelled, g, b, page, draws, c);
     }
 }
 
 // The proofs of a ballot: of its entries, its rows and its columns.
-fn write_proofs(out: &mut [u8], prefix: Hasher, g: Setup, b: Ballot, page: &[u8], draws: &[u32])
+fn write_proofs(out: &mut [u8], labelled: Hasher, g: Setup, b: Ballot, page: &[u8], draws: &[u32])
     requires { ⌜ Ready g × (0 < b .n) × (b .n ≤ 8) × (32 * (b .n * b .n) + 32 * b .n ≤ length (now out)) × (516 ≤ length (now page)) ⌝ }
     requires { ⌜ DrawsBelow (g .group .q) (now draws) (b .from) (4 * (b .n * b .n) + 2 * b .n) ⌝ }
     requires { ⌜ Paged (now page) 0 (b .n) (b .n) (matrixOf (parametersOf (g .group)) (b .n) (λ k. getD (b .list) k 0) (now draws) (b .from)) ⌝ }
-    ensures { λ _. ⌜ ((m : List ℕ) → Fed prefix m → now (out .exit) ≡ written (ballotProofBytes sha256 m (parametersOf (g .group)) (b .n) (λ k. getD (b .list) k 0) (now (draws .entry)) (b .from)) (now (out .entry))) ⌝ }
+    ensures { λ _. ⌜ ((m : List ℕ) → Fed labelled m → now (out .exit) ≡ written (ballotProofBytes sha256 m (parametersOf (g .group)) (b .n) (b .number) (λ k. getD (b .list) k 0) (now (draws .entry)) (b .from)) (now (out .entry))) ⌝ }
 {
     let n = b.n;
     let count = n * n;
-    write_entries(out, prefix, g, b, page, draws);
+    write_entries(out, labelled, g, b, page, draws);
     let lines = 32 * count;
-    lines::write_lines(&mut out[lines..], prefix, g, page, b, draws);
+    lines::write_lines(&mut out[lines..], labelled, g, page, b, draws);
 }
 
 pub fn write_ballot(out: &mut [u8], label: &[u8], g: Setup, b: Ballot, draws: &[u32])
@@ -114,6 +115,6 @@ pub fn write_ballot(out: &mut [u8], label: &[u8], g: Setup, b: Ballot, draws: &[
     let page = page_of(group, n, list, draws, b.from);
     let proofs = 4 + 8 * (n * n);
     pairs::put_front(out, layout::BA, b.number, &page[4..proofs]);
-    let prefix = Hasher::new().update(label);
-    write_proofs(&mut out[proofs..], prefix, g, b, &page, draws);
+    let labelled = Hasher::new().update(label);
+    write_proofs(&mut out[proofs..], labelled, g, b, &page, draws);
 }

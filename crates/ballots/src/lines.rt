@@ -10,29 +10,30 @@ use statements::claims::Claim;
 ghost use mathlib.Core.Path.{_≡_};
 ghost use Prim.Native.Nat.{ℕ, _+_, _*_, _≤_, _<_};
 ghost use mathlib.Core.List.{List};
-ghost use lib.ListN.{length};
+ghost use lib.ListN.{length, getD};
 ghost use Rattle.numbers.specs.Below.{concatBelow};
 ghost use Rattle.sha256.specs.Feed.{Fed};
 ghost use Rattle.group.specs.Elements.{parametersOf};
-ghost use Rattle.rules.specs.Claims.{Matrix};
 ghost use Rattle.statements.specs.Values.{Ready};
 ghost use Rattle.output.specs.Written.{written};
 ghost use Rattle.proving.specs.Plans.{DrawsBelow};
-ghost use Rattle.ballots.specs.Parts.{lineOf};
+ghost use Rattle.jobs.specs.Records.{matrixOf};
+ghost use Rattle.ballots.specs.Parts.{Paged, lineOf};
 
-// A proof of one statement alone is made from its witness, whatever the statement is.
+// The proof of row t, or else of column t - n, behind the entries' proofs.
 fn write_line(
     out: &mut [u8],
-    prefix: Hasher,
+    labelled: Hasher,
     g: Setup,
     page: &[u8],
     b: Ballot,
     draws: &[u32],
     t: usize,
 )
-    requires { ⌜ Ready g × (0 < b .n) × (b .n ≤ 8) × (t < b .n + b .n) × (16 ≤ length (now out)) ⌝ }
+    requires { ⌜ Ready g × (0 < b .n) × (b .n ≤ 8) × (t < b .n + b .n) × (16 ≤ length (now out)) × (516 ≤ length (now page)) ⌝ }
     requires { ⌜ DrawsBelow (g .group .q) (now draws) (b .from) (4 * (b .n * b .n) + 2 * b .n) ⌝ }
-    ensures { λ _. ⌜ ((m : List ℕ) → Fed prefix m → (M : Matrix) → now (out .exit) ≡ written (lineOf m (parametersOf (g .group)) (b .n) M (now (draws .entry)) (b .from) t) (now (out .entry))) ⌝ }
+    requires { ⌜ Paged (now page) 0 (b .n) (b .n) (matrixOf (parametersOf (g .group)) (b .n) (λ k. getD (b .list) k 0) (now draws) (b .from)) ⌝ }
+    ensures { λ _. ⌜ ((m : List ℕ) → Fed labelled m → now (out .exit) ≡ written (lineOf m (parametersOf (g .group)) (b .n) (b .number) (λ k. getD (b .list) k 0) (now (draws .entry)) (b .from) t) (now (out .entry))) ⌝ }
 {
     let n = b.n;
     let from = b.from;
@@ -55,18 +56,27 @@ fn write_line(
         claim,
     };
     let maker = Maker { plan, witness };
+    let prefix = challenges::feed_context(labelled, layout::BA, b.number, 1, n * n + t);
     proving::make(out, prefix, g, page, &no_inverses, maker, draws);
 }
 
-pub fn write_lines(out: &mut [u8], prefix: Hasher, g: Setup, page: &[u8], b: Ballot, draws: &[u32])
-    requires { ⌜ Ready g × (0 < b .n) × (b .n ≤ 8) × (32 * b .n ≤ length (now out)) ⌝ }
+pub fn write_lines(
+    out: &mut [u8],
+    labelled: Hasher,
+    g: Setup,
+    page: &[u8],
+    b: Ballot,
+    draws: &[u32],
+)
+    requires { ⌜ Ready g × (0 < b .n) × (b .n ≤ 8) × (32 * b .n ≤ length (now out)) × (516 ≤ length (now page)) ⌝ }
     requires { ⌜ DrawsBelow (g .group .q) (now draws) (b .from) (4 * (b .n * b .n) + 2 * b .n) ⌝ }
-    ensures { λ _. ⌜ ((m : List ℕ) → Fed prefix m → (M : Matrix) → now (out .exit) ≡ written (concatBelow (b .n + b .n) (lineOf m (parametersOf (g .group)) (b .n) M (now (draws .entry)) (b .from))) (now (out .entry))) ⌝ }
+    requires { ⌜ Paged (now page) 0 (b .n) (b .n) (matrixOf (parametersOf (g .group)) (b .n) (λ k. getD (b .list) k 0) (now draws) (b .from)) ⌝ }
+    ensures { λ _. ⌜ ((m : List ℕ) → Fed labelled m → now (out .exit) ≡ written (concatBelow (b .n + b .n) (lineOf m (parametersOf (g .group)) (b .n) (b .number) (λ k. getD (b .list) k 0) (now (draws .entry)) (b .from))) (now (out .entry))) ⌝ }
 {
     let n = b.n;
     let count = n + n;
     for t in 0..count {
         let at = 16 * t;
-        write_line(&mut out[at..], prefix, g, page, b, draws, t);
+        write_line(&mut out[at..], labelled, g, page, b, draws, t);
     }
 }

@@ -18,11 +18,12 @@ ghost use Rattle.statements.specs.Values.{Ready};
 ghost use Rattle.output.specs.Written.{written};
 ghost use Rattle.ballots.specs.Parts.{Paged, Shifting, oldMatrix, newMatrix, shiftProofOf, shiftOf};
 
-// A shift: its ballot's number, the processes of the rows before and after, the row struck, the column gone out, and where the draws of the
+// A shift: its round, from 1, its ballot's number, the processes of the rows before and after, the row struck, the column gone out, and where the draws of the
 // two records start.
 pub struct Shift {
     pub n: usize,
     pub rows: usize,
+    pub round: u8,
     pub number: u32,
     pub before: [u8; 8],
     pub after: [u8; 8],
@@ -46,10 +47,17 @@ fn pages_of(g: Group, s: Shift, draws: &[u32]) -> [u8; 1028]
     page
 }
 
-fn write_shift_proof(out: &mut [u8], prefix: Hasher, g: Setup, s: Shift, page: &[u8], draws: &[u32])
+fn write_shift_proof(
+    out: &mut [u8],
+    labelled: Hasher,
+    g: Setup,
+    s: Shift,
+    page: &[u8],
+    draws: &[u32],
+)
     requires { ⌜ Ready g × Shifting (g .group .p) (g .group .q) s (now draws) × ((s .rows + 1) * (28 + 12 * (s .rows * s .n)) ≤ length (now out)) × (1028 ≤ length (now page)) ⌝ }
     requires { ⌜ Paged (now page) 0 (s .rows + 1) (s .n) (oldMatrix (parametersOf (g .group)) s (now draws)) × Paged (now page) 512 (s .rows) (s .n) (newMatrix (parametersOf (g .group)) s (now draws)) ⌝ }
-    ensures { λ _. ⌜ ((m : List ℕ) → Fed prefix m → now (out .exit) ≡ written (shiftProofOf m (parametersOf (g .group)) s (now (draws .entry))) (now (out .entry))) ⌝ }
+    ensures { λ _. ⌜ ((m : List ℕ) → Fed labelled m → now (out .exit) ≡ written (shiftProofOf m (parametersOf (g .group)) s (now (draws .entry))) (now (out .entry))) ⌝ }
 {
     let n = s.n;
     let rows = s.rows;
@@ -73,6 +81,7 @@ fn write_shift_proof(out: &mut [u8], prefix: Hasher, g: Setup, s: Shift, page: &
         claim,
     };
     let maker = Maker { plan, witness };
+    let prefix = challenges::feed_context(labelled, layout::SH, s.number, s.round, 0);
     proving::make(out, prefix, g, page, &inverses, maker, draws);
 }
 
@@ -86,7 +95,7 @@ pub fn write_shift(out: &mut [u8], label: &[u8], g: Setup, s: Shift, draws: &[u3
     let page = pages_of(group, s, draws);
     let end = 516 + 8 * count;
     pairs::put_front(out, layout::SH, s.number, &page[516..end]);
-    let prefix = Hasher::new().update(label);
+    let labelled = Hasher::new().update(label);
     let at = 4 + 8 * count;
-    write_shift_proof(&mut out[at..], prefix, g, s, &page, draws);
+    write_shift_proof(&mut out[at..], labelled, g, s, &page, draws);
 }

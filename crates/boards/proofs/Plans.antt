@@ -43,7 +43,7 @@ ballot-is job g k m number from before gone a list em en ef eg e =
     (ap (λ (f : ℕ → ℕ). ballotBytes sha256 (job .label) g (job .n) (k + 1) f (job .draws) (drawsAt (job .n) (job .K) 0 k)) (rows-are job [] k list (rw eg at e)))
 
 module _ (job : Job) (g : Parameters) (k j : ℕ) (before : List ℕ) (a : ℕ) (s : Shift)
-    (en : s .n ≡ job .n) (er : s .rows ≡ job .n - suc j) (enu : s .number ≡ k + 1)
+    (en : s .n ≡ job .n) (er : s .rows ≡ job .n - suc j) (ero : s .round ≡ suc j + 1) (enu : s .number ≡ k + 1)
     (eb : s .before ≡ withZeros (remaining before (rankingOf job k))) (ea : s .after ≡ withZeros (remaining (before ++ (a ∷ [])) (rankingOf job k)))
     (es : s .struck ≡ rowOf a (remaining before (rankingOf job k))) (ec : s .column ≡ a - 1)
     (eo : s .old ≡ drawsAt (job .n) (job .K) j k) (ew : s .new ≡ drawsAt (job .n) (job .K) (suc j) k) where
@@ -52,7 +52,7 @@ module _ (job : Job) (g : Parameters) (k j : ℕ) (before : List ℕ) (a : ℕ) 
   later-is m e =
       let eb' = rows-are job before k (s .before) eb in
       let ea' = rows-are job (before ++ (a ∷ [])) k (s .after) ea in
-      (λ i. shiftBytes sha256 (job .label) g (en i) (er i) (enu i) (eb' i) (ea' i) (es i) (ec i) (job .draws) (eo i) (ew i))
+      (λ i. shiftBytes sha256 (job .label) g (en i) (er i) (ero i) (enu i) (eb' i) (ea' i) (es i) (ec i) (job .draws) (eo i) (ew i))
       ∙ ap (λ (m : ℕ). recordBytes sha256 job g before a m k) (sym e)
 
   pub shifting : (p : ℕ) → 0 < p → job .n ≤ 8 → suc j + 2 ≤ job .n → k < job .K → 1 ≤ a → a ≤ job .n → rowOf a (remaining before (rankingOf job k)) < job .n - j →

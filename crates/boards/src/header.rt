@@ -29,7 +29,7 @@ pub fn write_header(out: &mut [u8], head: Head, label: &[u8])
 {
     let n = numbers::low(head.n);
     let k = numbers::low16(head.k);
-    output::put_two(out, layout::HD);
+    output::put_two(out, layout::HF);
     output::put_byte(&mut out[2..], n);
     output::put_number2(&mut out[3..], k);
     put_group(&mut out[5..], head.setup.group, head.counter);

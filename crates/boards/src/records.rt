@@ -79,6 +79,7 @@ fn write_later(
     let s = Shift {
         n,
         rows: n - m,
+        round: numbers::low(m + 1),
         number: numbers::low16(b + 1),
         before,
         after,

@@ -1,4 +1,4 @@
--- The tests of the HD record, from the values that the code read.
+-- The tests of the header, from the values that the code read.
 use Prim.Native.Nat.{ℕ, _≤_, _<_}
 use mathlib.Core.Path.{_≡_, sym, ap, _∙_}
 use mathlib.Core.Bool.{true, false}

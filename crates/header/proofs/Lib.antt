@@ -1,2 +1,2 @@
--- The tests of the HD record.
+-- The tests of the header.
 pub mod HeaderTable

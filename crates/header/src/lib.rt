@@ -1,4 +1,4 @@
-// The HD record.
+// The header of a board.
 use group::Group;
 use rules::Model;
 use rules::Refusal;
@@ -11,7 +11,7 @@ ghost use Rattle.rules.specs.Records.{headerLength};
 ghost use Rattle.rules.specs.Header.{header};
 ghost use Rattle.header.specs.Heads.{HeaderReads};
 
-// What is read from a sound HD record.
+// What is read from a sound header.
 pub struct Head {
     pub n: usize,
     pub k: usize,

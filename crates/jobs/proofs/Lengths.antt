@@ -3,18 +3,15 @@ use Prim.Native.Nat.{ℕ, zero, suc, _+_, _*_, _-_, _<_}
 use mathlib.Core.Path.{_≡_, refl}
 use mathlib.Core.List.{List, _++_}
 use native.Mathlib.Omega.{arith}
-use lib.Dec.{eqb}
 use lib.ListN.{length, length-append}
 use Rattle.numbers.specs.Below.{concatBelow}
 use Rattle.numbers.proofs.Blocks.{length-blocks}
-use Rattle.numbers.proofs.Tests.{by-cases}
 use Rattle.group.specs.Elements.{Parameters}
 use Rattle.rules.specs.Bytes.{bytes4}
-use Rattle.rules.specs.Proofs.{Statement}
 use Rattle.rules.specs.Claims.{Matrix}
 use Rattle.rules.specs.Records.{recordLength, ballotLength, shiftLength, sheetLength}
 use Rattle.jobs.specs.Job.{Job}
-use Rattle.jobs.specs.Prover.{Prover, trueCommitments, falseCommitments, committed, responseOf, branchBytes, proofBytes}
+use Rattle.jobs.specs.Prover.{Prover, commitmentBytes, committed, responseOf, branchBytes, proofBytes}
 use Rattle.jobs.specs.Records.{matrixOf, pairBytes, entryProver, rowProver, columnProver, shiftProver, ballotProofBytes, ballotBytes, shiftBytes, sheetColumn, sheetBytes}
 use Rattle.jobs.specs.Board.{recordBytes}
 
@@ -36,57 +33,44 @@ pub length-sheet : (q n K : ℕ) (draws : List ℕ) (from each m out : ℕ) (cou
 unfolding sheetBytes
 length-sheet q n K draws from each m out counts = omega (arith, length-blocks n 6 (sheetColumn q n K draws from each counts) (λ _ _. refl))
 
--- the commitments of a statement
-module _ (g : Parameters) where
-  pub length-true : (x : ℕ) → length (trueCommitments g x) ≡ 8
-  unfolding trueCommitments
-  length-true x = refl
-
-  pub length-false : (st : Statement) (e r : ℕ) → length (falseCommitments g st e r) ≡ 8
-  unfolding falseCommitments
-  length-false st e r = refl
-
-  pub length-committed : (pr : Prover) (l i : ℕ) → length (committed g pr l i) ≡ 8
-  length-committed pr l i = by-cases (eqb l (pr .known)) (λ e. rw e (length-true _)) (λ e. rw e (length-false _ _ _))
-
 module _ (hash : List ℕ → List ℕ) (label : List ℕ) (g : Parameters) where
   pub length-proof : (pr : Prover) → length (proofBytes g pr hash label) ≡ pr .branches * (4 + 12 * pr .statements)
   unfolding proofBytes
-  length-proof pr = length-blocks (pr .branches) (4 + 12 * pr .statements) _ (λ l h. length-branch _ (pr .statements) (committed g pr l) (responseOf g pr hash label l) (λ i _. length-committed g pr l i))
+  length-proof pr = length-blocks (pr .branches) (4 + 12 * pr .statements) _ (λ l h. length-branch _ (pr .statements) (λ i. commitmentBytes (committed g pr l i)) (responseOf g pr hash label l) (λ _ _. refl))
 
   -- proofs of one size behind one another
   pub length-proofs : (n b s : ℕ) (f : ℕ → Prover) → ((i : ℕ) → f i .branches ≡ b) → ((i : ℕ) → f i .statements ≡ s) →
       length (concatBelow n (λ i. proofBytes g (f i) hash label)) ≡ n * (b * (4 + 12 * s))
   length-proofs n b s f eb es = length-blocks n (b * (4 + 12 * s)) _ (λ i h. rw (← eb i, ← es i) (length-proof (f i)))
 
-  module _ (n : ℕ) (list : ℕ → ℕ) (draws : List ℕ) (from : ℕ) where
-    pub length-entries : length (concatBelow n (λ i. concatBelow n (λ j. proofBytes g (entryProver g n list draws from i j) hash label))) ≡ n * (n * 32)
-    length-entries = length-blocks n (n * 32) _ (λ i _. length-proofs n 2 1 (entryProver g n list draws from i) (λ _. refl) (λ _. refl))
+  module _ (n number : ℕ) (list : ℕ → ℕ) (draws : List ℕ) (from : ℕ) where
+    pub length-entries : length (concatBelow n (λ i. concatBelow n (λ j. proofBytes g (entryProver g n number list draws from i j) hash label))) ≡ n * (n * 32)
+    length-entries = length-blocks n (n * 32) _ (λ i _. length-proofs n 2 1 (entryProver g n number list draws from i) (λ _. refl) (λ _. refl))
 
-    pub length-rows : length (concatBelow n (λ i. proofBytes g (rowProver g n list draws from i) hash label)) ≡ n * 16
-    length-rows = length-proofs n 1 1 (rowProver g n list draws from) (λ _. refl) (λ _. refl)
+    pub length-rows : length (concatBelow n (λ i. proofBytes g (rowProver g n number list draws from i) hash label)) ≡ n * 16
+    length-rows = length-proofs n 1 1 (rowProver g n number list draws from) (λ _. refl) (λ _. refl)
 
-    pub length-columns : length (concatBelow n (λ j. proofBytes g (columnProver g n list draws from j) hash label)) ≡ n * 16
-    length-columns = length-proofs n 1 1 (columnProver g n list draws from) (λ _. refl) (λ _. refl)
+    pub length-columns : length (concatBelow n (λ j. proofBytes g (columnProver g n number list draws from j) hash label)) ≡ n * 16
+    length-columns = length-proofs n 1 1 (columnProver g n number list draws from) (λ _. refl) (λ _. refl)
 
-    pub length-ballot : (number : ℕ) → length (ballotBytes hash label g n number list draws from) ≡ ballotLength n
+    pub length-ballot : length (ballotBytes hash label g n number list draws from) ≡ ballotLength n
     unfolding ballotBytes ballotProofBytes
-    length-ballot number =
+    length-ballot =
         let p = length-pairs n (matrixOf g n list draws from) n in
         let e = length-entries in
         let r = length-rows in
         let c = length-columns in
         simp length-append (omega arith)
 
-  pub length-shift : (n rows number : ℕ) (before after : ℕ → ℕ) (struck a : ℕ) (draws : List ℕ) (old new : ℕ) →
-      length (shiftBytes hash label g n rows number before after struck a draws old new) ≡ shiftLength n rows
+  pub length-shift : (n rows round number : ℕ) (before after : ℕ → ℕ) (struck a : ℕ) (draws : List ℕ) (old new : ℕ) →
+      length (shiftBytes hash label g n rows round number before after struck a draws old new) ≡ shiftLength n rows
   unfolding shiftBytes
-  length-shift n rows number before after struck a draws old new =
+  length-shift n rows round number before after struck a draws old new =
       let p = length-pairs n (matrixOf g n after draws new) rows in
-      let c = length-proof (shiftProver g n rows before after struck a draws old new) in
+      let c = length-proof (shiftProver g n rows round number before after struck a draws old new) in
       simp length-append (omega arith)
 
 pub length-record : (hash : List ℕ → List ℕ) (job : Job) (g : Parameters) (before : List ℕ) (a m k : ℕ) → length (recordBytes hash job g before a m k) ≡ recordLength (job .n) m
 unfolding recordBytes recordLength
-length-record hash job g before a zero k = length-ballot hash (job .label) g (job .n) _ (job .draws) _ (k + 1)
-length-record hash job g before a (suc m) k = length-shift hash (job .label) g (job .n) (job .n - suc m) (k + 1) _ _ _ _ (job .draws) _ _
+length-record hash job g before a zero k = length-ballot hash (job .label) g (job .n) (k + 1) _ (job .draws) _
+length-record hash job g before a (suc m) k = length-shift hash (job .label) g (job .n) (job .n - suc m) (suc m + 1) (k + 1) _ _ _ _ (job .draws) _ _

@@ -5,7 +5,7 @@ use mathlib.Core.List.{List, [], _∷_, _++_}
 use Rattle.numbers.specs.Below.{concatBelow}
 use Rattle.group.specs.Elements.{Parameters}
 use Rattle.rules.specs.Bytes.{bytes2, bytes4}
-use Rattle.rules.specs.Records.{HD}
+use Rattle.rules.specs.Records.{HF}
 use Rattle.rules.specs.Claims.{Matrix}
 use Rattle.rules.specs.Count.{Standing, start, next, leaves, closes, table, countsOf}
 use Rattle.jobs.specs.Job.{Job, groupOf, rankingOf, rowsOf, remaining, rowOf, recordDraws, roundDraws, drawsAt}
@@ -28,7 +28,7 @@ module _ (hash : List ℕ → List ℕ) (job : Job) (g : Parameters) where
   -- of round m + 1: before are those gone out before round m, a (from 1) went out in it
   abbrev pub jobShift : (before : List ℕ) (a m k : ℕ) → List ℕ
   jobShift before a m k =
-      shiftBytes hash (job .label) g (job .n) (job .n - suc m) (k + 1) (rowsOf job before k) (rowsOf job (before ++ (a ∷ [])) k)
+      shiftBytes hash (job .label) g (job .n) (job .n - suc m) (suc m + 1) (k + 1) (rowsOf job before k) (rowsOf job (before ++ (a ∷ [])) k)
       (rowOf a (remaining before (rankingOf job k))) (a - 1) (job .draws) (drawsAt (job .n) (job .K) m k) (drawsAt (job .n) (job .K) (suc m) k)
 
   -- ballot k's record in round m
@@ -47,10 +47,10 @@ module _ (hash : List ℕ → List ℕ) (job : Job) (g : Parameters) where
       (jobSheet job g m (leaves (job .n) st counts) counts
       ++ roundsFrom fuel (next (job .n) st counts) (suc m) (st .gone) (leaves (job .n) st counts))
 
-  -- "HD | n 1, K 2, p 4, q 4, g0 4, counter 1, g1 4, label 32"
+  -- "n 1, K 2, p 4, q 4, g0 4, counter 1, g1 4, label 32"
   abbrev pub headerBytes : List ℕ
   headerBytes =
-      HD ++ (job .n ∷ []) ++ bytes2 (job .K) ++ bytes4 (g .p) ++ bytes4 (g .q) ++ bytes4 (g .g0) ++ (job .counter ∷ []) ++ bytes4 (g .g1) ++ job .label
+      HF ++ (job .n ∷ []) ++ bytes2 (job .K) ++ bytes4 (g .p) ++ bytes4 (g .q) ++ bytes4 (g .g0) ++ (job .counter ∷ []) ++ bytes4 (g .g1) ++ job .label
 
   unfoldable pub boardBytes : List ℕ
   boardBytes = headerBytes ++ roundsFrom (job .n) start 0 [] 0

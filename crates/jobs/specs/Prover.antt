@@ -7,9 +7,11 @@ use Rattle.numbers.specs.Below.{sumBelow, concatBelow}
 use Rattle.group.specs.Arithmetic.{mulMod, powMod}
 use Rattle.group.specs.Elements.{Parameters}
 use Rattle.rules.specs.Bytes.{bytes4}
-use Rattle.rules.specs.Proofs.{Statement, challenge}
+use Rattle.rules.specs.Proofs.{Statement, Commitments, Context, message, challenge}
 
 pub record Prover : Type 0 where
+  -- which proof of the board it is, its size, and what it claims
+  pub context : Context
   pub branches : ℕ
   pub statements : ℕ
   pub claim : ℕ → ℕ → Statement
@@ -42,11 +44,15 @@ abbrev pub falseCommitment : Parameters → (base side challenge response : ℕ)
 falseCommitment g base side e r = mulMod (g .p) (powMod (g .p) base r) (powMod (g .p) side (g .q - e))
 
 -- the commitments of a statement: "t1 = g0^nonce, t2 = g1^nonce" in the true branch, by its equations in a false one
-unfoldable pub trueCommitments : Parameters → (nonce : ℕ) → List ℕ
-trueCommitments g x = bytes4 (powMod (g .p) (g .g0) x) ++ bytes4 (powMod (g .p) (g .g1) x)
+unfoldable pub trueCommitments : Parameters → (nonce : ℕ) → Commitments
+trueCommitments g x = record { t1 = powMod (g .p) (g .g0) x; t2 = powMod (g .p) (g .g1) x }
 
-unfoldable pub falseCommitments : Parameters → Statement → (challenge response : ℕ) → List ℕ
-falseCommitments g st e r = bytes4 (falseCommitment g (g .g0) (st .left) e r) ++ bytes4 (falseCommitment g (g .g1) (st .right) e r)
+unfoldable pub falseCommitments : Parameters → Statement → (challenge response : ℕ) → Commitments
+falseCommitments g st e r = record { t1 = falseCommitment g (g .g0) (st .left) e r; t2 = falseCommitment g (g .g1) (st .right) e r }
+
+-- as they stand on a board
+abbrev pub commitmentBytes : Commitments → List ℕ
+commitmentBytes t = bytes4 (t .t1) ++ bytes4 (t .t2)
 
 -- a response of the true branch, under its challenge
 abbrev pub trueResponse : (q nonce challenge witness : ℕ) → ℕ
@@ -57,13 +63,13 @@ unfoldable pub branchBytes : (challenge statements : ℕ) (commitments : ℕ →
 branchBytes e S t r = bytes4 e ++ concatBelow S (λ i. t i ++ bytes4 (r i))
 
 module _ (g : Parameters) (pr : Prover) where
-  abbrev pub committed : (l i : ℕ) → List ℕ
+  abbrev pub committed : (l i : ℕ) → Commitments
   committed l i =
       cond (eqb l (pr .known)) (trueCommitments g (nonce pr i)) (falseCommitments g (pr .claim l i) (falseChallenge pr l) (falseResponse pr l i))
 
-  module _ (hash : List ℕ → List ℕ) (prefix : List ℕ) where
+  module _ (hash : List ℕ → List ℕ) (label : List ℕ) where
     unfoldable pub wholeChallenge : ℕ
-    wholeChallenge = challenge hash prefix (concatBelow (pr .branches) (λ l. concatBelow (pr .statements) (committed l))) (g .q)
+    wholeChallenge = challenge hash (message label (pr .context) (pr .branches) (pr .statements) (pr .claim) committed) (g .q)
 
     -- the whole challenge less the false ones
     unfoldable pub trueChallenge : ℕ
@@ -76,4 +82,4 @@ module _ (g : Parameters) (pr : Prover) where
     responseOf l i = cond (eqb l (pr .known)) (trueResponse (g .q) (nonce pr i) trueChallenge (pr .witness i)) (falseResponse pr l i)
 
     unfoldable pub proofBytes : List ℕ
-    proofBytes = concatBelow (pr .branches) (λ l. branchBytes (challengeOf l) (pr .statements) (committed l) (responseOf l))
+    proofBytes = concatBelow (pr .branches) (λ l. branchBytes (challengeOf l) (pr .statements) (λ i. commitmentBytes (committed l i)) (responseOf l))

@@ -10,8 +10,10 @@ use Rattle.group.specs.Elements.{Parameters}
 use Rattle.rules.specs.Bytes.{bytes2, bytes4}
 use Rattle.rules.specs.Group.{paired}
 use Rattle.rules.specs.Records.{BA, SH, RT}
-use Rattle.rules.specs.Proofs.{Statement}
+use Rattle.rules.specs.Proofs.{Statement, Context}
 use Rattle.rules.specs.Claims.{Matrix, entryClaim, rowClaim, columnClaim, shiftClaim, source}
+use Rattle.rules.specs.Ballot.{entryPlace, rowPlace, columnPlace, ballotContext}
+use Rattle.rules.specs.Shift.{shiftContext}
 use Rattle.jobs.specs.Prover.{Prover, proofBytes}
 
 -- ---- pairs
@@ -34,14 +36,16 @@ pairBytes n M rows = concatBelow rows (λ i. concatBelow n (λ j. bytes4 (M .b i
 
 -- ---- proofs: which branch is true, why, and where their draws start
 -- of a row or column: the exponents of its pairs add up to the witness x
-abbrev pub lineProver : (draws : List ℕ) → Statement → (x from : ℕ) → Prover
-lineProver draws claim x from =
-    record { branches = 1; statements = 1; claim = λ _ _. claim; known = 0; witness = λ _. x; draw = λ d. getD draws d 0; from = from }
+abbrev pub lineProver : Context → (draws : List ℕ) → Statement → (x from : ℕ) → Prover
+lineProver c draws claim x from =
+    record { context = c; branches = 1; statements = 1; claim = λ _ _. claim; known = 0; witness = λ _. x; draw = λ d. getD draws d 0; from = from }
 
-module _ (g : Parameters) (n : ℕ) (list : ℕ → ℕ) (draws : List ℕ) (from : ℕ) where
+-- of the ballot with a number
+module _ (g : Parameters) (n number : ℕ) (list : ℕ → ℕ) (draws : List ℕ) (from : ℕ) where
   abbrev pub entryProver : (i j : ℕ) → Prover
   entryProver i j =
       record {
+        context = ballotContext number (entryPlace n i j);
         branches = 2;
         statements = 1;
         claim = λ l _. entryClaim g (matrixOf g n list draws from .b i j) (matrixOf g n list draws from .y i j) l;
@@ -52,10 +56,14 @@ module _ (g : Parameters) (n : ℕ) (list : ℕ → ℕ) (draws : List ℕ) (fro
       }
 
   abbrev pub rowProver : (i : ℕ) → Prover
-  rowProver i = lineProver draws (rowClaim g n (matrixOf g n list draws from) i) (sumBelow n (λ j. secretAt n draws from i j)) (from + 4 * (n * n) + i)
+  rowProver i =
+      lineProver (ballotContext number (rowPlace n i)) draws (rowClaim g n (matrixOf g n list draws from) i)
+      (sumBelow n (λ j. secretAt n draws from i j)) (from + 4 * (n * n) + i)
 
   abbrev pub columnProver : (j : ℕ) → Prover
-  columnProver j = lineProver draws (columnClaim g n (matrixOf g n list draws from) j) (sumBelow n (λ i. secretAt n draws from i j)) (from + 4 * (n * n) + n + j)
+  columnProver j =
+      lineProver (ballotContext number (columnPlace n j)) draws (columnClaim g n (matrixOf g n list draws from) j)
+      (sumBelow n (λ i. secretAt n draws from i j)) (from + 4 * (n * n) + n + j)
 
 -- the exponents of the statements of a shift, column a gone out and row l struck, where the draws of the two records start at old and new
 unfoldable pub shiftWitness : (q n : ℕ) (draws : List ℕ) (old new a l i : ℕ) → ℕ
@@ -63,10 +71,11 @@ shiftWitness q n draws old new a l zero = secretAt n draws old l a
 shiftWitness q n draws old new a l (suc zero) = sumBelow n (λ j. cond (eqb j a) 0 (secretAt n draws old l j))
 shiftWitness q n draws old new a l (suc (suc i)) = secretAt n draws new (i / n) (i % n) + (q - secretAt n draws old (source l (i / n)) (i % n))
 
--- of so many new rows, the processes of the rows being those before and after
-abbrev pub shiftProver : Parameters → (n rows : ℕ) (before after : ℕ → ℕ) (struck a : ℕ) (draws : List ℕ) (old new : ℕ) → Prover
-shiftProver g n rows before after struck a draws old new =
+-- of the ballot with a number in a round, from 1: so many new rows, the processes of the rows being those before and after
+abbrev pub shiftProver : Parameters → (n rows round number : ℕ) (before after : ℕ → ℕ) (struck a : ℕ) (draws : List ℕ) (old new : ℕ) → Prover
+shiftProver g n rows round number before after struck a draws old new =
     record {
+      context = shiftContext round number;
       branches = rows + 1;
       statements = 2 + rows * n;
       claim = λ l i. shiftClaim g n (matrixOf g n before draws old) (matrixOf g n after draws new) a l i;
@@ -79,21 +88,21 @@ shiftProver g n rows before after struck a draws old new =
 -- ---- records
 module _ (hash : List ℕ → List ℕ) (label : List ℕ) (g : Parameters) (n : ℕ) where
   -- "BA | number 2; n² pairs (b 4, Y 4) by rows; n² entry, n row, n column proofs"
-  unfoldable pub ballotProofBytes : (list : ℕ → ℕ) (draws : List ℕ) (from : ℕ) → List ℕ
-  ballotProofBytes list draws from =
-      concatBelow n (λ i. concatBelow n (λ j. proofBytes g (entryProver g n list draws from i j) hash label))
-      ++ concatBelow n (λ i. proofBytes g (rowProver g n list draws from i) hash label)
-      ++ concatBelow n (λ j. proofBytes g (columnProver g n list draws from j) hash label)
+  unfoldable pub ballotProofBytes : (number : ℕ) (list : ℕ → ℕ) (draws : List ℕ) (from : ℕ) → List ℕ
+  ballotProofBytes number list draws from =
+      concatBelow n (λ i. concatBelow n (λ j. proofBytes g (entryProver g n number list draws from i j) hash label))
+      ++ concatBelow n (λ i. proofBytes g (rowProver g n number list draws from i) hash label)
+      ++ concatBelow n (λ j. proofBytes g (columnProver g n number list draws from j) hash label)
 
   unfoldable pub ballotBytes : (number : ℕ) (list : ℕ → ℕ) (draws : List ℕ) (from : ℕ) → List ℕ
   ballotBytes number list draws from =
-      BA ++ bytes2 number ++ pairBytes n (matrixOf g n list draws from) n ++ ballotProofBytes list draws from
+      BA ++ bytes2 number ++ pairBytes n (matrixOf g n list draws from) n ++ ballotProofBytes number list draws from
 
   -- "SH | number 2; R × n pairs; one shift proof"
-  unfoldable pub shiftBytes : (rows number : ℕ) (before after : ℕ → ℕ) (struck a : ℕ) (draws : List ℕ) (old new : ℕ) → List ℕ
-  shiftBytes rows number before after struck a draws old new =
+  unfoldable pub shiftBytes : (rows round number : ℕ) (before after : ℕ → ℕ) (struck a : ℕ) (draws : List ℕ) (old new : ℕ) → List ℕ
+  shiftBytes rows round number before after struck a draws old new =
       SH ++ bytes2 number ++ pairBytes n (matrixOf g n after draws new) rows
-      ++ proofBytes g (shiftProver g n rows before after struck a draws old new) hash label
+      ++ proofBytes g (shiftProver g n rows round number before after struck a draws old new) hash label
 
 -- "RT | round 1, out 1, then per process count 2, s 4": of round m, whose K records have so many draws each
 abbrev pub sheetColumn : (q n K : ℕ) (draws : List ℕ) (from each : ℕ) (counts : List ℕ) (i : ℕ) → List ℕ

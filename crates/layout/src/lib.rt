@@ -5,7 +5,7 @@ ghost use Prim.Native.Nat.{_≤_, _<_};
 ghost use Rattle.rules.specs.Records.{ballotLength, shiftLength, sheetLength, recordLength};
 ghost use Rattle.rules.specs.Header.{ranked};
 
-pub const HD: [u8; 2] = [72, 68];
+pub const HF: [u8; 2] = [72, 70];
 
 pub const BA: [u8; 2] = [66, 65];
 
@@ -20,7 +20,7 @@ pub fn ranked() -> Model
     ensures { λ r. ⌜ r ≡ ranked ⌝ }
 {
     Model {
-        mark: HD,
+        mark: HF,
         least: 2,
         most: 8,
         ballots: 1000,

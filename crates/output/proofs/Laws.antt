@@ -1,6 +1,6 @@
 -- Laws of an output whose front is written, for functions that write into its unwritten rest or into a place within what is written.
 use Prim.Native.Nat.{ℕ, suc, _+_, _*_, _-_, _≤_, _<_}
-use mathlib.Core.Path.{_≡_, refl, _∙_, sym, ap}
+use mathlib.Core.Path.{_≡_, refl, _∙_, sym}
 use mathlib.Core.List.{List, [], _∷_, _++_, append-assoc, append-nil}
 use native.Mathlib.Nat.{le-refl, zero-add}
 use native.Mathlib.Numerals.{add-one}
@@ -22,10 +22,6 @@ pub none : (o : List ℕ) → o ≡ written [] o
 unfolding written
 none o = refl
 
-pub length-written : (w o : List ℕ) → length w ≤ length o → length (written w o) ≡ length o
-unfolding written
-length-written w o h = simp (length-append, length-drop) (omega arith)
-
 -- all from a place on
 pub rest-is : (a : ℕ) (l : List ℕ) → a ≤ length l → midOf a (length l - a) l ≡ drop a l
 rest-is a l h = take-all (length l - a) (drop a l) (simp length-drop (omega arith))
@@ -35,13 +31,6 @@ pub put-rest : (a : ℕ) (l r : List ℕ) → a ≤ length l → putMid a (lengt
 put-rest a l r h =
     let past : drop (length l - a) (drop a l) ≡ [] = drop-of-length-le (drop a l) {i = length l - a} (simp length-drop (omega arith)) in
     rw (past, append-nil)
-
--- a list of two is the first and the second
-pub two-of : (l : List ℕ) → length l ≡ 2 → getD l 0 0 ∷ getD l 1 0 ∷ [] ≡ l
-two-of [] e = absurd (omega arith)
-two-of (a ∷ []) e = absurd (omega arith)
-two-of (a ∷ b ∷ []) e = refl
-two-of (a ∷ b ∷ c ∷ l) e = absurd (omega arith)
 
 -- o's front is w, and b is written at the front of what is left: `written b` of the part that starts where w ends, put back
 pub more : (w b o l r : List ℕ) (a : ℕ) → length w ≡ a → l ≡ written w o → r ≡ written b (midOf a (length l - a) l) → putMid a (length l - a) l r ≡ written (w ++ b) o
@@ -81,14 +70,6 @@ patch x old new y o l r a n m el er =
 pub blocks-more : (f : ℕ → List ℕ) (n : ℕ) → concatBelow (n + 1) f ≡ concatBelow n f ++ f n
 unfolding concatBelow
 blocks-more f n = rw add-one
-
--- the front is read back
-pub taken : (w b o l : List ℕ) (n : ℕ) → length w ≡ n → l ≡ written (w ++ b) o → take n l ≡ w
-unfolding written
-taken w b o l n h e = rw (e, append-assoc) (take-at w _ n h)
-
-pub taken-count : (w b o l : List ℕ) (n : ℕ) → length w ≡ n → l ≡ written (w ++ b) o → n ≡ length (take n l)
-taken-count w b o l n h e = sym h ∙ ap length (sym (taken w b o l n h e))
 
 -- what stands from a place within the front on
 pub rest-from : (x w o l : List ℕ) (a : ℕ) → length x ≡ a → l ≡ written (x ++ w) o → midOf a (length l - a) l ≡ w ++ drop (length (x ++ w)) o

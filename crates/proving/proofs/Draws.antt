@@ -1,22 +1,19 @@
 -- Where a branch's draws stand.
-use Prim.Native.Nat.{ℕ, _+_, _*_, _-_, _≤_, _<_}
-use mathlib.Core.Path.{_≡_, sym, subst, _∙_}
-use mathlib.Core.Bool.{Bool, cond}
+use Prim.Native.Nat.{ℕ, _+_, _*_, _-_, _^_, _≤_, _<_}
+use mathlib.Core.Path.{_≡_, _∙_}
+use mathlib.Core.Bool.{false, cond}
 use mathlib.Core.List.{List}
 use native.Mathlib.Nat.{mul-le-mul-right, eq-or-lt-of-le}
 use mathlib.Core.Logic.{⊎-elim}
 use native.Mathlib.Numerals.{add-one}
 use native.Mathlib.Omega.{arith}
-use borrow.Author.Tests.{le-ltb, ltb-true, ltb-false, eq-eqb, ne-eqb}
-use lib.Dec.{ltb}
+use borrow.Author.Tests.{le-ltb, ltb-true, ltb-false, eq-eqb, ne-eqb, eqb-true, eqb-false}
+use lib.Dec.{ltb, eqb}
 use lib.ListN.{length, getD}
 use Rattle.numbers.specs.Below.{sumBelow}
 use Rattle.numbers.proofs.Tests.{by-cases}
-use Rattle.sha256.specs.declared.Hasher.{Hasher}
-use Rattle.group.specs.Elements.{Parameters}
-use Rattle.rules.specs.Proofs.{Statement}
 use Rattle.proving.specs.declared.Plan.{Plan}
-use Rattle.proving.specs.Plans.{planDraws, PlanDraws, falseComplements, Branched, draftChallenge, draftCommitments, draftResponses, trueTs, trueRs, falseTs, falseRs}
+use Rattle.proving.specs.Plans.{planDraws, PlanDraws, falseComplements}
 
 below : (l k b : ℕ) → l ≤ k → (l ≡ k → ⊥) → k < b → l + 2 ≤ b
 below l k b h n m = ⊎-elim (λ (e : l ≡ k). absurd (n e)) (λ (s : l < k). omega arith) (eq-or-lt-of-le h)
@@ -55,22 +52,22 @@ module _ (q : ℕ) (plan : Plan) (draws : List ℕ) (D : PlanDraws q plan draws)
   unfolding falseComplements sumBelow
   against-false sum e k = rw (add-one, ne-eqb l (plan .known) k, e)
 
--- what is held of a branch, by whether it is the known one
-module _ (g : Parameters) (claim : ℕ → ℕ → Statement) (plan : Plan) (draws : List ℕ) (l at S : ℕ) (o o' : List ℕ) (h k : Hasher) (a : at ≡ planDraws plan l) where
-  pub held-true : l ≡ plan .known → Branched 0 S (trueTs g draws at) (trueRs draws at) o o' h k →
-      Branched (draftChallenge plan draws l) S (draftCommitments g claim plan draws l) (draftResponses plan draws l) o o' h k
-  unfolding draftChallenge draftCommitments draftResponses
-  held-true e b =
-      subst (λ (z : Bool).
-      Branched (cond z 0 (getD draws (planDraws plan l) 0)) S (λ i. cond z (trueTs g draws (planDraws plan l) i) (falseTs g (claim l) draws (planDraws plan l) i))
-      (λ i. cond z (trueRs draws (planDraws plan l) i) (falseRs draws (planDraws plan l) i)) o o' h k)
-      (sym (eq-eqb l (plan .known) e)) (rw a at b)
+-- a branch as it is written at first, known or not: its draws start at a place
+module _ (q : ℕ) (plan : Plan) (draws : List ℕ) (D : PlanDraws q plan draws) (l : ℕ) (h : l < plan .branches) (at : ℕ) (a : at ≡ planDraws plan l) where
+  pub draft-near : at < 2 ^ 50
+  draft-near =
+      let few : plan .branches * (1 + plan .statements) ≤ 8 * (1 + plan .statements) = mul-le-mul-right (1 + plan .statements) (D .few) in
+      omega (arith, up q plan draws D l h, D .small, D .near)
 
-  pub held-false : (l ≡ plan .known → ⊥) → Branched (getD draws at 0) S (falseTs g (claim l) draws at) (falseRs draws at) o o' h k →
-      Branched (draftChallenge plan draws l) S (draftCommitments g claim plan draws l) (draftResponses plan draws l) o o' h k
-  unfolding draftChallenge draftCommitments draftResponses
-  held-false e b =
-      subst (λ (z : Bool).
-      Branched (cond z 0 (getD draws (planDraws plan l) 0)) S (λ i. cond z (trueTs g draws (planDraws plan l) i) (falseTs g (claim l) draws (planDraws plan l) i))
-      (λ i. cond z (trueRs draws (planDraws plan l) i) (falseRs draws (planDraws plan l) i)) o o' h k)
-      (sym (ne-eqb l (plan .known) e)) (rw a at b)
+  pub draft-at : eqb l (plan .known) ≡ false → at < length draws
+  draft-at e = omega (arith, false-fits q plan draws D l h (eqb-false l (plan .known) e))
+
+  pub draft-fits : (first : ℕ) → first ≡ cond (eqb l (plan .known)) at (at + 1) → first + plan .statements ≤ length draws
+  draft-fits first f =
+      rw (f, a)
+      (by-cases (eqb l (plan .known))
+      (λ e. rw e (true-fits q plan draws D l h (eqb-true l (plan .known) e)))
+      (λ e. rw e (false-fits q plan draws D l h (eqb-false l (plan .known) e))))
+
+  pub draft-low : (c : ℕ) → c ≡ cond (eqb l (plan .known)) 0 (getD draws at 0) → c < q
+  draft-low c f = rw (f, a) (by-cases (eqb l (plan .known)) (λ e. rw e (D .positive)) (λ e. rw e (false-low q plan draws D l h (eqb-false l (plan .known) e))))

@@ -19,14 +19,15 @@ use Rattle.sha256.specs.Message.{sha256}
 use Rattle.rules.specs.Bytes.{bytes4, number8, part}
 use Rattle.group.specs.Elements.{Parameters}
 use Rattle.group.specs.declared.Exponent.{Exponent}
-use Rattle.rules.specs.Proofs.{Statement}
-use Rattle.jobs.specs.Prover.{Prover, committed, challengeOf, responseOf, wholeChallenge, trueChallenge, proofBytes, branchBytes}
+use Rattle.rules.specs.Proofs.{Statement, Context, contextBytes, message}
+use Rattle.jobs.specs.Prover.{Prover, commitmentBytes, committed, challengeOf, responseOf, wholeChallenge, trueChallenge, proofBytes, branchBytes}
 use Rattle.output.specs.Written.{written}
 use Rattle.output.proofs.Laws.{more, patch, rest-from, blocks-more}
 use Rattle.proving.specs.declared.Plan.{Plan}
 use Rattle.proving.specs.declared.Maker.{Maker}
-use Rattle.proving.specs.Plans.{Branched, draftChallenge, draftCommitments, draftResponses, draftBranch, falseComplements, planDraws, answers, proverOf, proofOf}
-use Rattle.jobs.proofs.Lengths.{length-true, length-false, length-branch}
+use Rattle.proving.specs.Plans.{branchSaid, Branched, drafted, draftChallenge, draftCommitments, draftResponses, draftBranch, falseComplements, planDraws, answers, proverOf, proofOf}
+use Rattle.rules.proofs.Messages.{message-same}
+use Rattle.jobs.proofs.Lengths.{length-branch}
 
 -- a run of blocks around its k-th
 blocks-around : (f : ℕ → List ℕ) (k d : ℕ) → concatBelow (k + 1 + d) f ≡ concatBelow k f ++ (f k ++ concatBelow d (λ j. f (k + 1 + j)))
@@ -59,30 +60,29 @@ module _ (g : Parameters) (claim : ℕ → ℕ → Statement) (plan : Plan) (dra
   abbrev held : ℕ → List ℕ
   held = draftBranch g claim plan draws
 
-  length-ts : (l i : ℕ) → length (draftCommitments g claim plan draws l i) ≡ 8
-  unfolding draftCommitments
-  length-ts l i = by-cases (eqb l (plan .known)) (λ e. rw e (length-true _ _)) (λ e. rw e (length-false _ _ _ _))
+  abbrev heldTs : (l i : ℕ) → List ℕ
+  heldTs l i = commitmentBytes (draftCommitments g claim plan draws l i)
 
   pub length-held : (l : ℕ) → length (held l) ≡ 4 + 12 * plan .statements
   unfolding draftBranch
-  length-held l = length-branch _ (plan .statements) _ _ (λ i h. length-ts l i)
+  length-held l = length-branch _ (plan .statements) _ _ (λ _ _. refl)
 
-  held-part : (l i : ℕ) (y : List ℕ) → i < plan .statements → part (held l ++ y) (4 + 12 * i) 8 ≡ draftCommitments g claim plan draws l i
+  held-part : (l i : ℕ) (y : List ℕ) → i < plan .statements → part (held l ++ y) (4 + 12 * i) 8 ≡ heldTs l i
   unfolding draftBranch
   held-part l i y h =
       let n : i + 1 + (plan .statements - i - 1) ≡ plan .statements = omega arith in
-      rw n at (branch-part (draftChallenge plan draws l) (plan .statements - i - 1) (draftCommitments g claim plan draws l) (draftResponses plan draws l) y (length-ts l) i)
+      rw n at (branch-part (draftChallenge plan draws l) (plan .statements - i - 1) (heldTs l) (draftResponses plan draws l) y (λ _. refl) i)
 
   -- one more branch is held
   pub held-more : (l a : ℕ) (o out x : List ℕ) (h k : Hasher) → a ≡ l * (4 + 12 * plan .statements) → out ≡ written (concatBelow l held) o →
-      Branched (draftChallenge plan draws l) (plan .statements) (draftCommitments g claim plan draws l) (draftResponses plan draws l) (midOf a (length out - a) out) x h k →
+      Branched (claim l) (draftChallenge plan draws l) (plan .statements) (draftCommitments g claim plan draws l) (draftResponses plan draws l) (midOf a (length out - a) out) x h k →
       putMid a (length out - a) out x ≡ written (concatBelow (l + 1) held) o
   unfolding draftBranch
   held-more l a o out x h k ea eo b =
       more (concatBelow l held) (held l) o out x a (length-blocks l (4 + 12 * plan .statements) held (λ l h. length-held l) ∙ sym ea) eo (b .wrote)
       ∙ rw (blocks-more held l)
 
-module _ (prefix : List ℕ) (g : Parameters) (claim : ℕ → ℕ → Statement) (maker : Maker) (draws : List ℕ) where
+module _ (label : List ℕ) (context : Context) (g : Parameters) (claim : ℕ → ℕ → Statement) (maker : Maker) (draws : List ℕ) where
   abbrev plan : Plan
   plan = maker .plan
 
@@ -90,19 +90,19 @@ module _ (prefix : List ℕ) (g : Parameters) (claim : ℕ → ℕ → Statement
   witness = maker .witness
 
   abbrev pr : Prover
-  pr = proverOf claim maker draws
+  pr = proverOf context claim maker draws
 
   abbrev ts : (l i : ℕ) → List ℕ
-  ts l i = committed g pr l i
+  ts l i = commitmentBytes (committed g pr l i)
 
   abbrev es : ℕ → ℕ
-  es l = challengeOf g pr sha256 prefix l
+  es l = challengeOf g pr sha256 label l
 
   abbrev rs : (l i : ℕ) → ℕ
-  rs l i = responseOf g pr sha256 prefix l i
+  rs l i = responseOf g pr sha256 label l i
 
   abbrev c : ℕ
-  c = trueChallenge g pr sha256 prefix
+  c = trueChallenge g pr sha256 label
 
   abbrev first : ℕ → List ℕ
   first = held g claim plan draws
@@ -110,20 +110,23 @@ module _ (prefix : List ℕ) (g : Parameters) (claim : ℕ → ℕ → Statement
   final : ℕ → List ℕ
   final l = branchBytes (es l) (plan .statements) (ts l) (rs l)
 
-  proof-is : proofOf prefix g claim maker draws ≡ concatBelow (plan .branches) final
+  proof-is : proofOf label context g claim maker draws ≡ concatBelow (plan .branches) final
   unfolding proofBytes final branchBytes
   proof-is = refl
 
-  same-ts : (l i : ℕ) → ts l i ≡ draftCommitments g claim plan draws l i
-  unfolding draftCommitments
-  same-ts l i =
+  same-commitments : (l i : ℕ) → committed g pr l i ≡ draftCommitments g claim plan draws l i
+  unfolding draftCommitments drafted draftChallenge draftResponses
+  same-commitments l i =
       by-cases (eqb l (plan .known))
       (λ e. let k : l ≡ plan .known = eqb-true l (plan .known) e in rw (e, k))
       (λ e. rw e)
 
+  same-ts : (l i : ℕ) → ts l i ≡ heldTs g claim plan draws l i
+  same-ts l i = ap commitmentBytes (same-commitments l i)
+
   length-final : (l : ℕ) → length (final l) ≡ 4 + 12 * plan .statements
   unfolding final
-  length-final l = length-branch _ (plan .statements) _ _ (λ i h. ap length (same-ts l i) ∙ length-ts g claim plan draws l i)
+  length-final l = length-branch _ (plan .statements) _ _ (λ _ _. refl)
 
   -- a branch other than the known one is as it was held
   same-branch : (l : ℕ) → (l ≡ plan .known → ⊥) → first l ≡ final l
@@ -133,17 +136,15 @@ module _ (prefix : List ℕ) (g : Parameters) (claim : ℕ → ℕ → Statement
 
   -- the challenge that is left for the known branch
   pub challenge-is : (e whole sum : ℕ) (digest : List ℕ) →
-      digest ≡ sha256 (prefix ++ concatBelow (plan .branches) (λ l. concatBelow (plan .statements) (draftCommitments g claim plan draws l))) →
+      digest ≡ sha256 (label ++ contextBytes context ++ concatBelow (plan .branches) (λ l. branchSaid (plan .statements) (claim l) (draftCommitments g claim plan draws l))) →
       whole ≡ number8 digest 0 % g .q → sum ≡ falseComplements (g .q) plan draws (plan .branches) → e ≡ (whole + sum) % g .q → e ≡ c
-  unfolding trueChallenge wholeChallenge falseComplements
+  unfolding trueChallenge wholeChallenge falseComplements message
   challenge-is e whole sum digest ed ew ea ee =
-      let s : concatBelow (plan .branches) (λ l. concatBelow (plan .statements) (ts l)) ≡ concatBelow (plan .branches) (λ l. concatBelow (plan .statements) (draftCommitments g claim plan draws l)) =
-      blocks-same (plan .branches) _ _ (λ l k. blocks-same (plan .statements) _ _ (λ i m. same-ts l i)) in
-      ee ∙ rw (ew, ed, ea, s)
+      ee ∙ rw (ew, ed, ea, message-same label context (plan .branches) (plan .statements) claim claim (committed g pr) (draftCommitments g claim plan draws) (λ _ _ _ _. refl) (λ l i _ _. same-commitments l i))
 
   -- the known branch with its answers
   known-branch : (e at : ℕ) (t : ℕ → List ℕ) → e ≡ c → at ≡ planDraws plan (plan .known) →
-      ((i : ℕ) → i < plan .statements → t i ≡ draftCommitments g claim plan draws (plan .known) i) →
+      ((i : ℕ) → i < plan .statements → t i ≡ heldTs g claim plan draws (plan .known) i) →
       branchBytes e (plan .statements) t (answers (g .q) e witness draws at) ≡ final (plan .known)
   unfolding final
   known-branch e at t h a s =
@@ -164,7 +165,7 @@ module _ (prefix : List ℕ) (g : Parameters) (claim : ℕ → ℕ → Statement
     pub joined : (o l r : List ℕ) (a e at : ℕ) → a ≡ plan .known * (4 + 12 * plan .statements) → e ≡ c → at ≡ planDraws plan (plan .known) →
         l ≡ written (concatBelow (plan .branches) first) o →
         r ≡ written (branchBytes e (plan .statements) (λ i. part (midOf a (length l - a) l) (4 + 12 * i) 8) (answers (g .q) e witness draws at)) (midOf a (length l - a) l) →
-        putMid a (length l - a) l r ≡ written (proofOf prefix g claim maker draws) o
+        putMid a (length l - a) l r ≡ written (proofOf label context g claim maker draws) o
     joined o l r a e at ea ee eat el er =
         let x : List ℕ = concatBelow (plan .known) first in
         let old : List ℕ = first (plan .known) in

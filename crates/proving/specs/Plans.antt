@@ -1,7 +1,7 @@
 -- How a proof is made, in the terms of the rules.
 use Prim.Native.Nat.{ℕ, _+_, _*_, _-_, _^_, _≤_, _<_}
 use mathlib.Core.Path.{_≡_}
-use mathlib.Core.Bool.{cond}
+use mathlib.Core.Bool.{Bool, cond}
 use mathlib.Core.List.{List, _++_}
 use lib.Dec.{eqb}
 use lib.ListN.{length, getD}
@@ -9,8 +9,8 @@ use Rattle.numbers.specs.Below.{sumBelow, concatBelow}
 use Rattle.rules.specs.Bytes.{bytes4}
 use Rattle.group.specs.Elements.{Parameters}
 use Rattle.group.specs.declared.Exponent.{Exponent}
-use Rattle.rules.specs.Proofs.{Statement}
-use Rattle.jobs.specs.Prover.{Prover, trueCommitments, falseCommitments, trueResponse, proofBytes, branchDraws, branchBytes}
+use Rattle.rules.specs.Proofs.{Statement, Commitments, Context, statementBytes}
+use Rattle.jobs.specs.Prover.{Prover, commitmentBytes, trueCommitments, falseCommitments, trueResponse, proofBytes, branchDraws, branchBytes}
 use Rattle.sha256.specs.Message.{sha256}
 use Rattle.sha256.specs.Feed.{Fed}
 use Rattle.sha256.specs.declared.Hasher.{Hasher}
@@ -19,29 +19,23 @@ use Rattle.statements.specs.Claims.{Within}
 use Rattle.proving.specs.declared.Plan.{Plan}
 use Rattle.proving.specs.declared.Maker.{Maker}
 
--- a statement was written, and its commitments fed
-pub record Stated (t : List ℕ) (r : ℕ) (before after : List ℕ) (h k : Hasher) : Type 0 where
-  pub wrote : after ≡ written (t ++ bytes4 r) before
-  pub fed : (m : List ℕ) → Fed h m → Fed k (m ++ t)
+-- what the message says of a statement, and of a branch
+abbrev pub branchSaid : (S : ℕ) (claim : ℕ → Statement) (t : ℕ → Commitments) → List ℕ
+branchSaid S claim t = concatBelow S (λ i. statementBytes (claim i) (t i))
 
--- of the drawn branch whose draws start at a place
-abbrev pub falseTs : Parameters → (ℕ → Statement) → (draws : List ℕ) (at : ℕ) → ℕ → List ℕ
-falseTs g claim draws at i = falseCommitments g (claim i) (getD draws at 0) (getD draws (at + 1 + i) 0)
+-- a statement's commitments and response were written, and it was fed with its commitments
+pub record Stated (st : Statement) (t : Commitments) (r : ℕ) (before after : List ℕ) (h k : Hasher) : Type 0 where
+  pub wrote : after ≡ written (commitmentBytes t ++ bytes4 r) before
+  pub fed : (m : List ℕ) → Fed h m → Fed k (m ++ statementBytes st t)
 
-abbrev pub falseRs : (draws : List ℕ) (at : ℕ) → ℕ → ℕ
-falseRs draws at i = getD draws (at + 1 + i) 0
+-- the commitments of a statement: in the known branch from a nonce r, in another from a drawn challenge and response
+unfoldable pub drafted : Parameters → Statement → (known : Bool) (e r : ℕ) → Commitments
+drafted g st known e r = cond known (trueCommitments g r) (falseCommitments g st e r)
 
--- of the known branch
-abbrev pub trueTs : Parameters → (draws : List ℕ) (at : ℕ) → ℕ → List ℕ
-trueTs g draws at i = trueCommitments g (getD draws (at + i) 0)
-
-abbrev pub trueRs : (draws : List ℕ) (at : ℕ) → ℕ → ℕ
-trueRs draws at i = getD draws (at + i) 0
-
--- a branch was written, and its commitments fed
-pub record Branched (e S : ℕ) (t : ℕ → List ℕ) (r : ℕ → ℕ) (before after : List ℕ) (h k : Hasher) : Type 0 where
-  pub wrote : after ≡ written (branchBytes e S t r) before
-  pub fed : (m : List ℕ) → Fed h m → Fed k (m ++ concatBelow S t)
+-- a branch was written, and its statements fed
+pub record Branched (claim : ℕ → Statement) (e S : ℕ) (t : ℕ → Commitments) (r : ℕ → ℕ) (before after : List ℕ) (h k : Hasher) : Type 0 where
+  pub wrote : after ≡ written (branchBytes e S (λ i. commitmentBytes (t i)) r) before
+  pub fed : (m : List ℕ) → Fed h m → Fed k (m ++ branchSaid S claim t)
 
 -- the i-th witness, as a number
 abbrev pub witnessAt : (witness : List Exponent) → ℕ → ℕ
@@ -69,33 +63,35 @@ pub record PlanDraws (q : ℕ) (plan : Plan) (draws : List ℕ) : Type 0 where
 -- and the pairs that the claim names stand on the page
 pub record Planned (g : Parameters) (page inverses : List ℕ) (plan : Plan) (draws : List ℕ) : Type 0 where
   pub drawn : PlanDraws (g .q) plan draws
-  pub ready : (l i : ℕ) → l < plan .branches → i < plan .statements → (l ≡ plan .known → ⊥) → Within page inverses g (plan .claim) l i
+  pub ready : (l i : ℕ) → l < plan .branches → i < plan .statements → Within page inverses g (plan .claim) l i
 
 -- a branch before the known one's challenge is known: 0 stands for it, and the nonces for the responses
 unfoldable pub draftChallenge : Plan → (draws : List ℕ) (l : ℕ) → ℕ
 draftChallenge plan draws l = cond (eqb l (plan .known)) 0 (getD draws (planDraws plan l) 0)
 
-unfoldable pub draftCommitments : Parameters → (ℕ → ℕ → Statement) → Plan → (draws : List ℕ) (l i : ℕ) → List ℕ
-draftCommitments g claim plan draws l i = cond (eqb l (plan .known)) (trueTs g draws (planDraws plan l) i) (falseTs g (claim l) draws (planDraws plan l) i)
-
+-- the draws that follow it are the nonces of the known branch, the responses of another
 unfoldable pub draftResponses : Plan → (draws : List ℕ) (l i : ℕ) → ℕ
-draftResponses plan draws l i = cond (eqb l (plan .known)) (trueRs draws (planDraws plan l) i) (falseRs draws (planDraws plan l) i)
+draftResponses plan draws l i = getD draws (cond (eqb l (plan .known)) (planDraws plan l) (planDraws plan l + 1) + i) 0
+
+unfoldable pub draftCommitments : Parameters → (ℕ → ℕ → Statement) → Plan → (draws : List ℕ) (l i : ℕ) → Commitments
+draftCommitments g claim plan draws l i = drafted g (claim l i) (eqb l (plan .known)) (draftChallenge plan draws l) (draftResponses plan draws l i)
 
 unfoldable pub draftBranch : Parameters → (ℕ → ℕ → Statement) → Plan → (draws : List ℕ) (l : ℕ) → List ℕ
-draftBranch g claim plan draws l = branchBytes (draftChallenge plan draws l) (plan .statements) (draftCommitments g claim plan draws l) (draftResponses plan draws l)
+draftBranch g claim plan draws l = branchBytes (draftChallenge plan draws l) (plan .statements) (λ i. commitmentBytes (draftCommitments g claim plan draws l i)) (draftResponses plan draws l)
 
--- every branch was so written, and its commitments fed
+-- every branch was so written, and its statements fed
 pub record Committed (g : Parameters) (claim : ℕ → ℕ → Statement) (plan : Plan) (draws before after : List ℕ) (h k : Hasher) : Type 0 where
   pub wrote : after ≡ written (concatBelow (plan .branches) (draftBranch g claim plan draws)) before
-  pub fed : (m : List ℕ) → Fed h m → Fed k (m ++ concatBelow (plan .branches) (λ l. concatBelow (plan .statements) (draftCommitments g claim plan draws l)))
+  pub fed : (m : List ℕ) → Fed h m → Fed k (m ++ concatBelow (plan .branches) (λ l. branchSaid (plan .statements) (claim l) (draftCommitments g claim plan draws l)))
 
 unfoldable pub falseComplements : (q : ℕ) → Plan → (draws : List ℕ) → ℕ → ℕ
 falseComplements q plan draws n = sumBelow n (λ l. cond (eqb l (plan .known)) 0 (q - getD draws (planDraws plan l) 0))
 
 -- what the rules say of the maker of a proof
-abbrev pub proverOf : (ℕ → ℕ → Statement) → Maker → (draws : List ℕ) → Prover
-proverOf claim maker draws =
+abbrev pub proverOf : Context → (ℕ → ℕ → Statement) → Maker → (draws : List ℕ) → Prover
+proverOf c claim maker draws =
     record {
+      context = c;
       branches = maker .plan .branches;
       statements = maker .plan .statements;
       claim = claim;
@@ -105,8 +101,8 @@ proverOf claim maker draws =
       from = maker .plan .from;
     }
 
-abbrev pub proofOf : (prefix : List ℕ) → Parameters → (ℕ → ℕ → Statement) → Maker → (draws : List ℕ) → List ℕ
-proofOf prefix g claim maker draws = proofBytes g (proverOf claim maker draws) sha256 prefix
+abbrev pub proofOf : (label : List ℕ) → Context → Parameters → (ℕ → ℕ → Statement) → Maker → (draws : List ℕ) → List ℕ
+proofOf label c g claim maker draws = proofBytes g (proverOf c claim maker draws) sha256 label
 
 -- so many draws from a place on are there, and below q
 pub record DrawsBelow (q : ℕ) (draws : List ℕ) (from count : ℕ) : Type 0 where

@@ -2,20 +2,20 @@
 use crate::Plan;
 use crate::statement;
 use group::Exponent;
-use group::Group;
 use sha256::Hasher;
 use statements::Setup;
 use statements::claims;
 ghost use mathlib.Core.Path.{_≡_};
-ghost use Prim.Native.Nat.{ℕ, _+_, _*_, _^_, _≤_, _<_};
+ghost use mathlib.Core.Bool.{false, cond};
+ghost use Prim.Native.Nat.{_+_, _*_, _^_, _≤_, _<_};
 ghost use lib.ListN.{length, getD};
 ghost use Rattle.group.specs.Elements.{parametersOf};
 ghost use Rattle.rules.specs.Bytes.{part};
 ghost use Rattle.statements.specs.Values.{Ready};
-ghost use Rattle.statements.specs.Claims.{claimOf, Within};
+ghost use Rattle.statements.specs.Claims.{claimOf};
 ghost use Rattle.output.specs.Written.{written};
 ghost use Rattle.jobs.specs.Prover.{trueResponse, branchBytes};
-ghost use Rattle.proving.specs.Plans.{Branched, answers, planDraws, Planned, draftChallenge, draftCommitments, draftResponses, falseTs, falseRs, trueTs, trueRs};
+ghost use Rattle.proving.specs.Plans.{Branched, answers, planDraws, Planned, draftChallenge, draftCommitments, draftResponses};
 
 // Where a branch's draws start.
 pub fn branch_draws(plan: Plan, l: usize) -> usize
@@ -36,64 +36,29 @@ pub struct Branch {
     pub at: usize,
 }
 
-// A branch whose witness is not known: its challenge and responses are drawn.
-fn false_branch(
-    out: &mut [u8],
-    h: Hasher,
-    g: Setup,
-    page: &[u8],
-    inverses: &[u32],
-    branch: Branch,
-    draws: &[u32],
-) -> Hasher
-    requires { ⌜ Ready g × (branch .plan .statements < 100) × (4 + 12 * branch .plan .statements ≤ length (now out)) × (branch .at + 1 + branch .plan .statements ≤ length (now draws)) ⌝ }
-    requires { ⌜ getD (now draws) (branch .at) 0 < g .group .q ⌝ }
-    requires { ⌜ ((i : ℕ) → i < branch .plan .statements → Within (now page) (now inverses) (parametersOf (g .group)) (branch .plan .claim) (branch .l) i) ⌝ }
-    ensures { λ k. ⌜ Branched (getD (now (draws .entry)) (branch .at) 0) (branch .plan .statements) (falseTs (parametersOf (g .group)) (claimOf (now (page .entry)) (parametersOf (g .group)) (branch .plan .claim) (branch .l)) (now (draws .entry)) (branch .at)) (falseRs (now (draws .entry)) (branch .at)) (now (out .entry)) (now (out .exit)) h k ⌝ }
+// The challenge that a branch is written with at first: 0 for the known one, else the draw at a place.
+fn first_challenge(draws: &[u32], at: usize, known: bool) -> u32
+    requires { ⌜ (known ≡ false → at < length (now draws)) ⌝ }
+    ensures { λ e. ⌜ e ≡ cond known 0 (getD (now (draws .entry)) at 0) ⌝ }
 {
-    let group = g.group;
-    let plan = branch.plan;
-    let claim = plan.claim;
-    let statements = plan.statements;
-    let l = branch.l;
-    let at = branch.at;
-    let e = draws[at];
-    output::put_number4(out, e);
-    let mut k = h;
-    for i in 0..statements {
-        let s = claims::claimed(page, inverses, g, claim, l, i);
-        let place = 4 + 12 * i;
-        let r = draws[at + 1 + i];
-        let next = statement::put_false(&mut out[place..], k, group, s, Exponent(e), Exponent(r));
-        k = next;
+    if known {
+        return 0;
     }
-    k
+    draws[at]
 }
 
-// The branch whose witness is known: 0 for its challenge, and the nonces for its responses, until the challenge is known.
-fn true_branch(
-    out: &mut [u8],
-    h: Hasher,
-    g: Group,
-    statements: usize,
-    draws: &[u32],
-    at: usize,
-) -> Hasher
-    requires { ⌜ (0 < g .p) × (statements < 100) × (4 + 12 * statements ≤ length (now out)) × (at + statements ≤ length (now draws)) ⌝ }
-    ensures { λ k. ⌜ Branched 0 statements (trueTs (parametersOf g) (now (draws .entry)) at) (trueRs (now (draws .entry)) at) (now (out .entry)) (now (out .exit)) h k ⌝ }
+// Where its nonces or its responses start.
+fn after_challenge(at: usize, known: bool) -> usize
+    requires { ⌜ at < 2 ^ 50 ⌝ }
+    ensures { λ r. ⌜ r ≡ cond known at (at + 1) ⌝ }
 {
-    output::put_number4(out, 0);
-    let mut k = h;
-    for i in 0..statements {
-        let place = 4 + 12 * i;
-        let x = draws[at + i];
-        let next = statement::put_true(&mut out[place..], k, g, Exponent(x));
-        k = next;
+    if known {
+        return at;
     }
-    k
+    at + 1
 }
 
-// A branch before the known one's challenge is known.
+// A branch before the known one's challenge is known: of the known one 0 stands for the challenge and the nonces for the responses, those of another are drawn.
 pub fn commit_branch(
     out: &mut [u8],
     h: Hasher,
@@ -105,13 +70,26 @@ pub fn commit_branch(
 ) -> Hasher
     requires { ⌜ Ready g × Planned (parametersOf (g .group)) (now page) (now inverses) (branch .plan) (now draws) ⌝ }
     requires { ⌜ (branch .l < branch .plan .branches) × (branch .at ≡ planDraws (branch .plan) (branch .l)) × (4 + 12 * branch .plan .statements ≤ length (now out)) ⌝ }
-    ensures { λ k. ⌜ Branched (draftChallenge (branch .plan) (now (draws .entry)) (branch .l)) (branch .plan .statements) (draftCommitments (parametersOf (g .group)) (claimOf (now (page .entry)) (parametersOf (g .group)) (branch .plan .claim)) (branch .plan) (now (draws .entry)) (branch .l)) (draftResponses (branch .plan) (now (draws .entry)) (branch .l)) (now (out .entry)) (now (out .exit)) h k ⌝ }
+    ensures { λ k. ⌜ Branched (claimOf (now (page .entry)) (parametersOf (g .group)) (branch .plan .claim) (branch .l)) (draftChallenge (branch .plan) (now (draws .entry)) (branch .l)) (branch .plan .statements) (draftCommitments (parametersOf (g .group)) (claimOf (now (page .entry)) (parametersOf (g .group)) (branch .plan .claim)) (branch .plan) (now (draws .entry)) (branch .l)) (draftResponses (branch .plan) (now (draws .entry)) (branch .l)) (now (out .entry)) (now (out .exit)) h k ⌝ }
 {
-    if branch.l == branch.plan.known {
-        let group = g.group;
-        return true_branch(out, h, group, branch.plan.statements, draws, branch.at);
+    let group = g.group;
+    let plan = branch.plan;
+    let claim = plan.claim;
+    let statements = plan.statements;
+    let l = branch.l;
+    let known = l == plan.known;
+    let e = first_challenge(draws, branch.at, known);
+    let first = after_challenge(branch.at, known);
+    output::put_number4(out, e);
+    let mut k = h;
+    for i in 0..statements {
+        let s = claims::claimed(page, inverses, g, claim, l, i);
+        let place = 4 + 12 * i;
+        let r = Exponent(draws[first + i]);
+        let next = statement::put_draft(&mut out[place..], k, group, s, known, Exponent(e), r);
+        k = next;
     }
-    false_branch(out, h, g, page, inverses, branch, draws)
+    k
 }
 
 fn response(q: u32, e: Exponent, nonce: Exponent, witness: Exponent) -> Exponent

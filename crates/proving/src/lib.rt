@@ -1,4 +1,4 @@
-// A proof made in its place on the board by one who knows the witness of one branch: the commitments are fed to the hash as they arise, and the
+// A proof made in its place on the board by one who knows the witness of one branch: the statements are fed to the hash with their commitments as these arise, and the
 // true branch's challenge and responses are written last.
 use crate::branch::Branch;
 use group::Exponent;
@@ -7,10 +7,11 @@ use statements::Setup;
 use statements::claims::Claim;
 ghost use mathlib.Core.Path.{_≡_};
 ghost use Prim.Native.Nat.{ℕ, _+_, _*_, _^_, _≤_, _<_};
-ghost use mathlib.Core.List.{List};
+ghost use mathlib.Core.List.{List, _++_};
 ghost use lib.ListN.{length};
 ghost use Rattle.sha256.specs.Feed.{Fed};
 ghost use Rattle.group.specs.Elements.{parametersOf};
+ghost use Rattle.rules.specs.Proofs.{Context, contextBytes};
 ghost use Rattle.statements.specs.Values.{Ready};
 ghost use Rattle.statements.specs.Claims.{claimOf};
 ghost use Rattle.output.specs.Written.{written};
@@ -51,7 +52,7 @@ fn false_complements(q: u32, plan: Plan, draws: &[u32]) -> u64
     sum
 }
 
-// Every branch as it is before the known one's challenge is known; the commitments are fed to the hash after the prefix.
+// Every branch as it is before the known one's challenge is known; its statements are fed to the hash after the prefix.
 fn commit(
     out: &mut [u8],
     prefix: Hasher,
@@ -78,8 +79,7 @@ fn commit(
     h
 }
 
-// A whole proof of a claim about pairs that stand on a page, under a prefix fed to the hasher. What the known branch's statements are does not matter: it is
-// made from their witnesses.
+// A whole proof of a claim about pairs that stand on a page; the label and the proof's context are fed to the hasher.
 pub fn make(
     out: &mut [u8],
     prefix: Hasher,
@@ -91,7 +91,7 @@ pub fn make(
 )
     requires { ⌜ Ready g × Planned (parametersOf (g .group)) (now page) (now inverses) (maker .plan) (now draws) ⌝ }
     requires { ⌜ (maker .plan .branches * (4 + 12 * maker .plan .statements) ≤ length (now out)) × (maker .plan .statements ≤ 64) ⌝ }
-    ensures { λ _. ⌜ ((m : List ℕ) → Fed prefix m → now (out .exit) ≡ written (proofOf m (parametersOf (g .group)) (claimOf (now (page .entry)) (parametersOf (g .group)) (maker .plan .claim)) maker (now (draws .entry))) (now (out .entry))) ⌝ }
+    ensures { λ _. ⌜ ((label : List ℕ) (c : Context) → Fed prefix (label ++ contextBytes c) → now (out .exit) ≡ written (proofOf label c (parametersOf (g .group)) (claimOf (now (page .entry)) (parametersOf (g .group)) (maker .plan .claim)) maker (now (draws .entry))) (now (out .entry))) ⌝ }
 {
     let plan = maker.plan;
     let witness = maker.witness;

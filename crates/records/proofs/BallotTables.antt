@@ -3,7 +3,7 @@ use Prim.Native.Nat.{ℕ, _+_, _*_, _-_}
 use mathlib.Core.Path.{_≡_, sym, ap, _∙_}
 use mathlib.Core.Bool.{Bool, _&&_, and-assoc}
 use mathlib.Core.List.{List}
-use native.Mathlib.Nat.{mul-one}
+use native.Mathlib.Nat.{mul-one, add-assoc}
 use native.Mathlib.Omega.{arith}
 use Rattle.numbers.specs.Below.{allBelow}
 use Rattle.numbers.proofs.Tests.{all-grid, all-same, all-add}
@@ -13,7 +13,7 @@ use Rattle.rules.specs.Bytes.{number2}
 use Rattle.rules.specs.Records.{BA, SH, ballotLength, shiftLength}
 use Rattle.rules.specs.Proofs.{proofFields}
 use Rattle.rules.specs.Claims.{matrixAt, entryClaim, rowClaim, columnClaim}
-use Rattle.rules.specs.Ballot.{pairsGood, ballotFields, ballotProofs, ballotFault, entryProof, rowProof, columnProof}
+use Rattle.rules.specs.Ballot.{pairsGood, ballotFields, ballotProofs, ballotFault, entryProof, rowProof, columnProof, entryPlace, rowPlace, columnPlace, ballotContext}
 use Rattle.rules.specs.Shift.{shiftFields, shiftHolds, shiftFault}
 use Rattle.statements.specs.Walks.{pairFields, branchFields}
 use Rattle.statements.proofs.Lines.{by-row, by-column-of, all-lines}
@@ -71,20 +71,20 @@ module _ (s : List ℕ) (h : Head) (at : ℕ) where
 
   entries-are :
       allBelow (h .n) (λ i. allBelow (h .n) (λ j.
-      proofAt s h (entryProof (h .n) at i j) 2 1
+      proofAt s h (ballotContext (number2 s (at + 2)) (entryPlace (h .n) i j)) (entryProof (h .n) at i j) 2 1
       (λ l _. entryClaim (parametersOf (h .setup .group)) (matrixAt s (h .n) at .b i j) (matrixAt s (h .n) at .y i j) l)))
       ≡ allBelow (h .n * h .n) (entryGood s h at)
   unfolding matrixAt
   entries-are = all-grid (h .n) (h .n) (entryGood s h at)
 
   lines-are :
-      (allBelow (h .n) (λ i. proofAt s h (rowProof (h .n) at i) 1 1 (λ _ _. rowClaim (parametersOf (h .setup .group)) (h .n) (matrixAt s (h .n) at) i))
-      && allBelow (h .n) (λ j. proofAt s h (columnProof (h .n) at j) 1 1 (λ _ _. columnClaim (parametersOf (h .setup .group)) (h .n) (matrixAt s (h .n) at) j)))
+      (allBelow (h .n) (λ i. proofAt s h (ballotContext (number2 s (at + 2)) (rowPlace (h .n) i)) (rowProof (h .n) at i) 1 1 (λ _ _. rowClaim (parametersOf (h .setup .group)) (h .n) (matrixAt s (h .n) at) i))
+      && allBelow (h .n) (λ j. proofAt s h (ballotContext (number2 s (at + 2)) (columnPlace (h .n) j)) (columnProof (h .n) at j) 1 1 (λ _ _. columnClaim (parametersOf (h .setup .group)) (h .n) (matrixAt s (h .n) at) j)))
       ≡ allBelow (h .n + h .n) (lineGood s h at)
   lines-are =
       let row = rowClaim (parametersOf (h .setup .group)) (h .n) (matrixAt s (h .n) at) in
       let column = columnClaim (parametersOf (h .setup .group)) (h .n) (matrixAt s (h .n) at) in
-      sym (all-lines (h .n) (lineGood s h at) _ _ (λ i l. rw (by-row (h .n) row column i l)) (λ j l. rw (by-column-of (h .n) row column j)))
+      sym (all-lines (h .n) (lineGood s h at) _ _ (λ i l. rw (by-row (h .n) row column i l)) (λ j l. rw (by-column-of (h .n) row column j, add-assoc (h .n * h .n) (h .n) j)))
 
   proofs-are : ballotProofs sha256 s (headOf s h) at ≡ ballotProofsAt s h at
   unfolding ballotProofs
@@ -100,8 +100,8 @@ module _ (s : List ℕ) (h : Head) (at : ℕ) where
   unfolding shiftFields
   shift-fields-are rows = rw (pairs-are rows)
 
-  pub shift-table : (rows a before number : ℕ) →
+  pub shift-table : (rows round a before number : ℕ) →
       FiveTests s at (shiftLength (h .n) rows) SH (number2 s (at + 2)) number (shiftFieldsAt s (h .n) (h .setup .group .p) (h .setup .group .q) at rows)
-      (shiftProofAt s h before at rows (a - 1)) (shiftFault sha256 s (headOf s h) rows at a before number)
+      (shiftProofAt s h before at rows round (a - 1)) (shiftFault sha256 s (headOf s h) rows at round a before number)
   unfolding shiftFault shiftHolds
-  shift-table rows a before number = record { table = rw (shift-fields-are rows) }
+  shift-table rows round a before number = record { table = rw (shift-fields-are rows) }

@@ -5,10 +5,11 @@ use mathlib.Core.Bool.{Bool, _&&_}
 use Rattle.numbers.specs.Below.{allBelow}
 use Rattle.sha256.specs.Message.{sha256}
 use Rattle.group.specs.Elements.{parametersOf}
-use Rattle.rules.specs.Bytes.{number4}
+use Rattle.rules.specs.Bytes.{number2, number4}
 use Rattle.rules.specs.Claims.{matrixAt, entryClaim, rowClaim, columnClaim, shiftClaim}
-use Rattle.rules.specs.Proofs.{Statement, proofFields}
-use Rattle.rules.specs.Ballot.{holdsAt}
+use Rattle.rules.specs.Proofs.{Statement, Context, proofFields}
+use Rattle.rules.specs.Ballot.{holdsAt, ballotContext}
+use Rattle.rules.specs.Shift.{shiftContext}
 use Rattle.statements.specs.Lines.{byLine}
 use Rattle.statements.specs.Walks.{pairsFields}
 use Rattle.header.specs.declared.Head.{Head}
@@ -23,19 +24,19 @@ abbrev pub ballotFieldsAt : (s : List ℕ) (n p q at : ℕ) → Bool
 ballotFieldsAt s n p q at = fieldsAt s at (n * n) (n * n * 2 + (n + n)) 1 p q
 
 -- a proof under the board's label
-abbrev pub proofAt : (s : List ℕ) (h : Head) (at branches statements : ℕ) → (ℕ → ℕ → Statement) → Bool
-proofAt s h at branches statements claim = holdsAt sha256 s (headOf s h) at branches statements claim
+abbrev pub proofAt : (s : List ℕ) (h : Head) → Context → (at branches statements : ℕ) → (ℕ → ℕ → Statement) → Bool
+proofAt s h c at branches statements claim = holdsAt sha256 s (headOf s h) c at branches statements claim
 
--- entry t, by rows: of the t-th pair
+-- entry t, by rows, at place t: of the t-th pair
 abbrev pub entryGood : (s : List ℕ) (h : Head) (at t : ℕ) → Bool
 entryGood s h at t =
-    proofAt s h (at + 4 + 8 * (h .n * h .n) + 32 * t) 2 1
+    proofAt s h (ballotContext (number2 s (at + 2)) t) (at + 4 + 8 * (h .n * h .n) + 32 * t) 2 1
     (λ l _. entryClaim (parametersOf (h .setup .group)) (number4 s (at + 4 + 8 * t)) (number4 s (at + 4 + 8 * t + 4)) l)
 
--- row t, or column t - n
+-- row t, or column t - n, behind the entries
 abbrev pub lineGood : (s : List ℕ) (h : Head) (at t : ℕ) → Bool
 lineGood s h at t =
-    proofAt s h (at + 4 + 40 * (h .n * h .n) + 16 * t) 1 1
+    proofAt s h (ballotContext (number2 s (at + 2)) (h .n * h .n + t)) (at + 4 + 40 * (h .n * h .n) + 16 * t) 1 1
     (λ _ _. byLine (h .n) t (rowClaim (parametersOf (h .setup .group)) (h .n) (matrixAt s (h .n) at)) (columnClaim (parametersOf (h .setup .group)) (h .n) (matrixAt s (h .n) at)))
 
 abbrev pub ballotProofsAt : (s : List ℕ) (h : Head) (at : ℕ) → Bool
@@ -45,7 +46,7 @@ ballotProofsAt s h at = allBelow (h .n * h .n) (entryGood s h at) && allBelow (h
 abbrev pub shiftFieldsAt : (s : List ℕ) (n p q at rows : ℕ) → Bool
 shiftFieldsAt s n p q at rows = fieldsAt s at (rows * n) (rows + 1) (2 + rows * n) p q
 
-abbrev pub shiftProofAt : (s : List ℕ) (h : Head) (before at rows a : ℕ) → Bool
-shiftProofAt s h before at rows a =
-    proofAt s h (at + 4 + 8 * (rows * h .n)) (rows + 1) (2 + rows * h .n)
+abbrev pub shiftProofAt : (s : List ℕ) (h : Head) (before at rows round a : ℕ) → Bool
+shiftProofAt s h before at rows round a =
+    proofAt s h (shiftContext round (number2 s (at + 2))) (at + 4 + 8 * (rows * h .n)) (rows + 1) (2 + rows * h .n)
     (λ l i. shiftClaim (parametersOf (h .setup .group)) (h .n) (matrixAt s (h .n) before) (matrixAt s (h .n) at) a l i)

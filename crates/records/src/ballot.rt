@@ -5,6 +5,7 @@ use header::Head;
 use rules::Refusal;
 use statements::claims;
 use statements::claims::Claim;
+use statements::proof::Shape;
 ghost use mathlib.Core.Path.{_≡_};
 ghost use Prim.Native.Nat.{_+_, _*_, _≤_};
 ghost use lib.ListN.{length};
@@ -24,11 +25,19 @@ fn entries_good(board: &[u8], h: Head, at: usize) -> bool
     let head = h;
     let n = h.n;
     let no_inverses = [0u32; 0];
+    let label = crate::labelled(board);
+    let number = fields::number2(board, at + 2);
     let first = at + 4 + 8 * (n * n);
     let count = n * n;
     for t in 0..count {
+        let prefix = challenges::feed_context(label, layout::BA, number, 1, t);
+        let shape = Shape {
+            at: first + 32 * t,
+            branches: 2,
+            statements: 1,
+        };
         let claim = Claim::Entry { at: at + 4 + 8 * t };
-        if !crate::proof_good(board, &no_inverses, first + 32 * t, 2, 1, head, claim) {
+        if !crate::proof_good(board, &no_inverses, prefix, shape, head, claim) {
             return false;
         }
     }
@@ -43,16 +52,25 @@ fn lines_good(board: &[u8], h: Head, at: usize) -> bool
     let head = h;
     let n = h.n;
     let no_inverses = [0u32; 0];
+    let label = crate::labelled(board);
+    let number = fields::number2(board, at + 2);
     let first = at + 4 + 40 * (n * n);
+    let entries = n * n;
     let count = n + n;
     for t in 0..count {
+        let prefix = challenges::feed_context(label, layout::BA, number, 1, entries + t);
+        let shape = Shape {
+            at: first + 16 * t,
+            branches: 1,
+            statements: 1,
+        };
         let line = claims::line_of(n, t);
         let claim = Claim::Line {
             at: at + 4 + 8 * line.start,
             stride: 8 * line.stride,
             count: n,
         };
-        if !crate::proof_good(board, &no_inverses, first + 16 * t, 1, 1, head, claim) {
+        if !crate::proof_good(board, &no_inverses, prefix, shape, head, claim) {
             return false;
         }
     }

@@ -10,9 +10,14 @@ use statements::walks;
 use statements::walks::Walk;
 ghost use mathlib.Core.Path.{_≡_};
 ghost use Prim.Native.Nat.{ℕ, _+_, _*_, _≤_, _<_};
+ghost use mathlib.Core.List.{_++_};
 ghost use lib.ListN.{length};
+ghost use Rattle.sha256.specs.Feed.{Fed};
 ghost use Rattle.sha256.specs.Message.{sha256};
 ghost use Rattle.group.specs.Elements.{parametersOf};
+ghost use Rattle.rules.specs.Bytes.{part};
+ghost use Rattle.rules.specs.Records.{headerLength};
+ghost use Rattle.rules.specs.Proofs.{Context, contextBytes};
 ghost use Rattle.rules.specs.Header.{ranked};
 ghost use Rattle.rules.specs.Ballot.{holdsAt};
 ghost use Rattle.statements.specs.Claims.{claimOf, Within};
@@ -50,32 +55,33 @@ fn fields_good(
     true
 }
 
-// A proof on the board, at the bases g0 and g1; the prefix of its message is the board's label.
+// What the message of every challenge starts with: the board's label.
+fn labelled(board: &[u8]) -> Hasher
+    requires { ⌜ headerLength ≤ length (now board) ⌝ }
+    ensures { λ r. ⌜ Fed r (part (now (board .entry)) 22 32) ⌝ }
+{
+    Hasher::new().update(&board[22..layout::HEADER_LENGTH])
+}
+
+// A proof on the board, at the bases g0 and g1; the label and the proof's context are fed to the hasher.
 fn proof_good(
     board: &[u8],
     inverses: &[u32],
-    at: usize,
-    branches: usize,
-    statements: usize,
+    prefix: Hasher,
+    shape: Shape,
     h: Head,
     claim: Claim,
 ) -> bool
     requires { ⌜ HeaderKnown ranked (now board) h ⌝ }
-    requires { ⌜ at + branches * (4 + 12 * statements) ≤ length (now board) ⌝ }
-    requires { ⌜ ((l i : ℕ) → l < branches → i < statements → Within (now board) (now inverses) (parametersOf (h .setup .group)) claim l i) ⌝ }
-    ensures { λ r. ⌜ r ≡ holdsAt sha256 (now (board .entry)) (headOf (now (board .entry)) h) at branches statements (claimOf (now (board .entry)) (parametersOf (h .setup .group)) claim) ⌝ }
+    requires { ⌜ shape .at + shape .branches * (4 + 12 * shape .statements) ≤ length (now board) ⌝ }
+    requires { ⌜ ((l i : ℕ) → l < shape .branches → i < shape .statements → Within (now board) (now inverses) (parametersOf (h .setup .group)) claim l i) ⌝ }
+    ensures { λ r. ⌜ ((c : Context) → Fed prefix (part (now (board .entry)) 22 32 ++ contextBytes c) → r ≡ holdsAt sha256 (now (board .entry)) (headOf (now (board .entry)) h) c (shape .at) (shape .branches) (shape .statements) (claimOf (now (board .entry)) (parametersOf (h .setup .group)) claim)) ⌝ }
 {
     let g0 = h.setup.group.g0;
     let g1 = h.setup.group.g1;
-    let prefix = Hasher::new().update(&board[22..layout::HEADER_LENGTH]);
     let bases = Bases {
         first: g0,
         second: g1,
-    };
-    let shape = Shape {
-        at,
-        branches,
-        statements,
     };
     proof::proof_holds(board, inverses, prefix, bases, shape, h.setup, claim)
 }

@@ -22,10 +22,10 @@ module _ (s : List ℕ) (H : Header) (a k at : ℕ) (p : Passed) where
   record-first (suc m) z here w = absurd (omega arith)
 
   pub record-later : (m e before : ℕ) → m ≡ suc e → at ≡ place s H m k → before ≡ place s H e k →
-      Passes s (shiftFault sha256 s H (H .n - m) at a before (k + 1)) (at + shiftLength (H .n) (H .n - m)) p → Said m
+      Passes s (shiftFault sha256 s H (H .n - m) at (m + 1) a before (k + 1)) (at + shiftLength (H .n) (H .n - m)) p → Said m
   unfolding recordFault recordLength
   record-later zero e before z here there w = absurd (omega arith)
   record-later (suc m) e before z here there w =
       let same : e ≡ m = omega arith in
-      subst (λ (x : ℕ). Passes s (shiftFault sha256 s H (H .n - suc m) x a (place s H m k) (k + 1)) (at + shiftLength (H .n) (H .n - suc m)) p) here
-      (subst (λ (x : ℕ). Passes s (shiftFault sha256 s H (H .n - suc m) at a x (k + 1)) (at + shiftLength (H .n) (H .n - suc m)) p) (rw same at there) w)
+      subst (λ (x : ℕ). Passes s (shiftFault sha256 s H (H .n - suc m) x (suc m + 1) a (place s H m k) (k + 1)) (at + shiftLength (H .n) (H .n - suc m)) p) here
+      (subst (λ (x : ℕ). Passes s (shiftFault sha256 s H (H .n - suc m) at (suc m + 1) a x (k + 1)) (at + shiftLength (H .n) (H .n - suc m)) p) (rw same at there) w)

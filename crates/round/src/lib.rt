@@ -90,7 +90,7 @@ fn read_record(board: &[u8], h: Head, round: Round, before: usize, at: usize, k:
     if m == 0 {
         return ballot::read_ballot(board, h, at, k + 1);
     }
-    shift::read_shift(board, h, h.n - m, round.a, before, at, k + 1)
+    shift::read_shift(board, h, m, round.a, before, at, k + 1)
 }
 
 // The length of a ballot's record in the round before round m; 0 ahead of the first.

@@ -8,5 +8,6 @@ pub mod Orders
 pub mod Elements
 pub mod Places
 pub mod Positions
+pub mod Messages
 pub mod RefusalNumbers
 pub mod Digests

@@ -1,4 +1,4 @@
--- Laws of tables, votes and membership.
+-- Laws of lists of two, tables, votes and membership.
 use Prim.Native.Nat.{ℕ, zero, suc, _+_, _≤_, _<_}
 use mathlib.Core.Path.{_≡_, refl, sym, ap, ap₂, _∙_}
 use mathlib.Core.Bool.{Bool, true, false, cond, _||_, false≢true, or-assoc}
@@ -20,6 +20,13 @@ eqb-sym a b = go (eqb a b) (eqb b a) refl refl
     go true t e f = e ∙ sym (eq-eqb b a (sym (eqb-true a b e)))
     go false true e f = absurd (eqb-false a b e (sym (eqb-true b a f)))
     go false false e f = e ∙ sym f
+
+-- a list of two is the first and the second
+pub two-of : (l : List ℕ) → length l ≡ 2 → getD l 0 0 ∷ getD l 1 0 ∷ [] ≡ l
+two-of [] e = absurd (omega arith)
+two-of (a ∷ []) e = absurd (omega arith)
+two-of (a ∷ b ∷ []) e = refl
+two-of (a ∷ b ∷ c ∷ l) e = absurd (omega arith)
 
 -- ---- tables
 module _ {ℓ} {A : Type ℓ} where

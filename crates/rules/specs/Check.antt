@@ -95,7 +95,7 @@ module _ (hash : List ℕ → List ℕ) (s : List ℕ) where
     -- ballot k's record in round m: BA in the first round, SH in each further one; a went out in the round before
     unfoldable pub recordFault : (a m k : ℕ) → ℕ
     recordFault a zero k = ballotFault hash s h (place s h 0 k) (k + 1)
-    recordFault a (suc m) k = shiftFault hash s h (h .n - suc m) (place s h (suc m) k) a (place s h m k) (k + 1)
+    recordFault a (suc m) k = shiftFault hash s h (h .n - suc m) (place s h (suc m) k) (suc m + 1) a (place s h m k) (k + 1)
 
     -- one round: its K records, its sheet, and what comes after
     unfoldable pub roundVerdict : Standing → (m a : ℕ) → (after : Verdict) → Verdict

@@ -1,4 +1,4 @@
--- The HD record, which a board starts with.
+-- The header, which a board starts with: 01's HD record, marked HF.
 use Prim.Native.Nat.{ℕ}
 use mathlib.Core.Bool.{Bool, _&&_}
 use mathlib.Core.List.{List, [], _∷_}
@@ -7,19 +7,19 @@ use lib.ListN.{length, getD}
 use Rattle.group.specs.Elements.{Parameters}
 use Rattle.rules.specs.Bytes.{number4, number2, part}
 use Rattle.rules.specs.Group.{orders, generators}
-use Rattle.rules.specs.Records.{HD, hasMark, headerLength}
+use Rattle.rules.specs.Records.{HF, hasMark, headerLength}
 use Rattle.rules.specs.Tests.{firstFault, _orElse_}
 use Rattle.rules.specs.declared.Model.{Model}
 
 -- "n is the number of processes (2 to 8, numbered from 1), K the number of ballots (1 to 1,000)."
 abbrev pub ranked : Model
-ranked = record { mark = HD; least = 2; most = 8; ballots = 1000 }
+ranked = record { mark = HF; least = 2; most = 8; ballots = 1000 }
 
 -- n and K are in a model's range
 abbrev pub sizes : Model → (n K : ℕ) → Bool
 sizes model n K = leb (model .least) n && leb n (model .most) && leb 1 K && leb K (model .ballots)
 
--- "HD | n 1, K 2, p 4, q 4, g0 4, counter 1, g1 4, label 32"; the counter serves to make g1 alone
+-- "n 1, K 2, p 4, q 4, g0 4, counter 1, g1 4, label 32"; the counter serves to make g1 alone
 pub record Header : Type 0 where
   pub n : ℕ
   pub K : ℕ

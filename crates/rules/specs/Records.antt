@@ -5,9 +5,9 @@ use mathlib.Core.List.{List, [], _∷_}
 use lib.Dec.{eqb}
 use lib.ListN.{getD}
 
--- "Each record starts with a two-byte ASCII mark."
-abbrev pub HD : List ℕ
-HD = 72 ∷ 68 ∷ []
+-- "Each record starts with a two-byte ASCII mark."; 02, L3: "A header of this model starts HF"
+abbrev pub HF : List ℕ
+HF = 72 ∷ 70 ∷ []
 
 abbrev pub BA : List ℕ
 BA = 66 ∷ 65 ∷ []

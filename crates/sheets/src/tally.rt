@@ -2,7 +2,7 @@
 use group::Element;
 use header::Head;
 ghost use mathlib.Core.Path.{_≡_};
-ghost use Prim.Native.Nat.{_+_, _*_, _≤_, _<_};
+ghost use Prim.Native.Nat.{_+_, _*_, _≤_};
 ghost use lib.ListN.{length};
 ghost use Rattle.rules.specs.Claims.{matrixAt};
 ghost use Rattle.rules.specs.Sheet as said;

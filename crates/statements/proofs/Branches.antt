@@ -7,14 +7,13 @@ use native.Mathlib.Nat.{mul-le-mul-right, mod-add-mod}
 use native.Mathlib.Numerals.{add-one}
 use native.Mathlib.Omega.{arith}
 use lib.Dec.{eqb}
-use lib.ListN.{take, drop}
 use Rattle.numbers.specs.Below.{allBelow, sumBelow, concatBelow}
 use Rattle.numbers.proofs.Tests.{all-fails}
 use Rattle.sha256.specs.Message.{sha256}
 use Rattle.sha256.specs.Feed.{Fed}
 use Rattle.sha256.specs.declared.Hasher.{Hasher}
-use Rattle.rules.specs.Bytes.{number4, number8, part}
-use Rattle.rules.specs.Proofs.{Statement, statementHolds, branchAt, statementAt, proofHolds, commitments}
+use Rattle.rules.specs.Bytes.{number4, number8}
+use Rattle.rules.specs.Proofs.{Statement, Context, contextBytes, statementBytes, message, statementHolds, branchAt, statementAt, commitmentsAt, proofHolds}
 
 module _ (s : List ℕ) (p base0 base1 : ℕ) (claim : ℕ → ℕ → Statement) (at statements : ℕ) where
   abbrev pub here : (l i : ℕ) → Bool
@@ -26,11 +25,13 @@ module _ (s : List ℕ) (p base0 base1 : ℕ) (claim : ℕ → ℕ → Statement
   abbrev pub branchHere : ℕ → Bool
   branchHere l = allBelow statements (here l)
 
-abbrev pub piece : (s : List ℕ) (at statements l i : ℕ) → List ℕ
-piece s at statements l i = part s (statementAt at statements l i) 8
+-- what the message says of a statement, and of a branch
+module _ (s : List ℕ) (claim : ℕ → ℕ → Statement) (at statements l : ℕ) where
+  abbrev pub piece : (i : ℕ) → List ℕ
+  piece i = statementBytes (claim l i) (commitmentsAt s at statements l i)
 
-abbrev pub pieces : (s : List ℕ) (at statements l : ℕ) → List ℕ
-pieces s at statements l = concatBelow statements (piece s at statements l)
+  abbrev pub pieces : List ℕ
+  pieces = concatBelow statements piece
 
 abbrev pub challenges : (s : List ℕ) (at statements l : ℕ) → ℕ
 challenges s at statements l = number4 s (branchAt at statements l)
@@ -56,27 +57,25 @@ pub sum-more : (q sum sum' e l : ℕ) (f : ℕ → ℕ) → sum ≡ sumBelow l f
 unfolding sumBelow
 sum-more q sum sum' e l f h he h' = rw (add-one l, h', h, he) (mod-add-mod (sumBelow l f) q (f l))
 
-module _ (s prefix : List ℕ) (p q base0 base1 : ℕ) (claim : ℕ → ℕ → Statement) (at branches statements : ℕ) where
+module _ (s label : List ℕ) (c : Context) (p q base0 base1 : ℕ) (claim : ℕ → ℕ → Statement) (at branches statements : ℕ) where
   pub fails-there : (l i : ℕ) → l < branches → i < statements → here s p base0 base1 claim at statements l i ≡ false →
-      false ≡ proofHolds s at branches statements sha256 prefix p q base0 base1 claim
+      false ≡ proofHolds s at branches statements sha256 label c p q base0 base1 claim
   unfolding proofHolds
   fails-there l i hl hi h = rw (all-fails branches l (branchHere s p base0 base1 claim at statements) hl (all-fails statements i (here s p base0 base1 claim at statements l) hi h))
 
-  pub sums-up : (sum c : ℕ) → allBelow branches (branchHere s p base0 base1 claim at statements) ≡ true →
+  pub sums-up : (sum whole : ℕ) → allBelow branches (branchHere s p base0 base1 claim at statements) ≡ true →
       sum ≡ sumBelow branches (challenges s at statements) % q →
-      c ≡ number8 (sha256 (prefix ++ concatBelow branches (pieces s at statements))) 0 % q →
-      eqb sum c ≡ proofHolds s at branches statements sha256 prefix p q base0 base1 claim
-  unfolding proofHolds commitments
-  sums-up sum c h hs hc = rw (h, hs, hc)
+      whole ≡ number8 (sha256 (label ++ contextBytes c ++ concatBelow branches (pieces s claim at statements))) 0 % q →
+      eqb sum whole ≡ proofHolds s at branches statements sha256 label c p q base0 base1 claim
+  unfolding proofHolds message
+  sums-up sum whole h hs hc = rw (h, hs, hc)
 
 -- what is fed after a statement, and after a branch
-pub fed-more : (h : Hasher) (m s : List ℕ) (at statements l i : ℕ) →
-    Fed h ((m ++ concatBelow i (piece s at statements l)) ++ take (statementAt at statements l i + 8 - statementAt at statements l i) (drop (statementAt at statements l i) s)) →
-    Fed h (m ++ concatBelow (i + 1) (piece s at statements l))
-fed-more h m s at statements l i f =
-    let e : statementAt at statements l i + 8 - statementAt at statements l i ≡ 8 = omega arith in
-    rw (← one-more m (piece s at statements l) i, ← e) f
+pub fed-more : (h : Hasher) (m s : List ℕ) (claim : ℕ → ℕ → Statement) (at statements l i : ℕ) →
+    Fed h ((m ++ concatBelow i (piece s claim at statements l)) ++ piece s claim at statements l i) → Fed h (m ++ concatBelow (i + 1) (piece s claim at statements l))
+fed-more h m s claim at statements l i f = rw (← one-more m (piece s claim at statements l) i) f
 
-pub fed-branch : (h : Hasher) (m s : List ℕ) (at statements l i : ℕ) → i ≡ statements →
-    Fed h ((m ++ concatBelow l (pieces s at statements)) ++ concatBelow i (piece s at statements l)) → Fed h (m ++ concatBelow (l + 1) (pieces s at statements))
-fed-branch h m s at statements l i e f = rw (← one-more m (pieces s at statements) l) (rw e at f)
+pub fed-branch : (h : Hasher) (m s : List ℕ) (claim : ℕ → ℕ → Statement) (at statements l i : ℕ) → i ≡ statements →
+    Fed h ((m ++ concatBelow l (pieces s claim at statements)) ++ concatBelow i (piece s claim at statements l)) →
+    Fed h (m ++ concatBelow (l + 1) (pieces s claim at statements))
+fed-branch h m s claim at statements l i e f = rw (← one-more m (pieces s claim at statements) l) (rw e at f)

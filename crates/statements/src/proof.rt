@@ -8,22 +8,15 @@ use group::Exponent;
 use sha256::Hasher;
 ghost use mathlib.Core.Path.{_≡_};
 ghost use Prim.Native.Nat.{ℕ, _+_, _*_, _-_, _≤_, _<_};
-ghost use mathlib.Core.List.{List};
+ghost use mathlib.Core.List.{List, _++_};
 ghost use lib.ListN.{length};
 ghost use Rattle.sha256.specs.Feed.{Fed};
 ghost use Rattle.sha256.specs.Message.{sha256};
 ghost use Rattle.group.specs.Elements.{parametersOf};
 ghost use Rattle.rules.specs.Bytes.{number4};
-ghost use Rattle.rules.specs.Proofs.{statementHolds, proofHolds};
+ghost use Rattle.rules.specs.Proofs.{Context, contextBytes, proofHolds};
 ghost use Rattle.statements.specs.Values.{Ready};
 ghost use Rattle.statements.specs.Claims.{claimOf, Within};
-
-// Statement i of branch l, and the place of its commitments and response.
-struct Spot {
-    l: usize,
-    i: usize,
-    place: usize,
-}
 
 // The bases of the powers that a proof speaks of.
 pub struct Bases {
@@ -31,28 +24,15 @@ pub struct Bases {
     pub second: Element,
 }
 
-// One statement of a proof, under its branch's challenge.
-fn statement_at(
-    board: &[u8],
-    inverses: &[u32],
-    bases: Bases,
-    g: Setup,
-    claim: Claim,
-    spot: Spot,
-    e: Exponent,
-) -> bool
-    requires { ⌜ Ready g ⌝ }
-    requires { ⌜ spot .place + 12 ≤ length (now board) ⌝ }
-    requires { ⌜ Within (now board) (now inverses) (parametersOf (g .group)) claim (spot .l) (spot .i) ⌝ }
-    ensures { λ r. ⌜ r ≡ statementHolds (g .group .p) (bases .first .0) (bases .second .0) (claimOf (now (board .entry)) (parametersOf (g .group)) claim (spot .l) (spot .i)) (number4 (now (board .entry)) (spot .place)) (number4 (now (board .entry)) (spot .place + 4)) (e .0) (number4 (now (board .entry)) (spot .place + 8)) ⌝ }
+// The commitments and the response of the statement at a place.
+fn shown_at(board: &[u8], place: usize) -> Shown
+    requires { ⌜ place + 12 ≤ length (now board) ⌝ }
+    ensures { λ r. ⌜ (r .t1 .0 ≡ number4 (now (board .entry)) place) × (r .t2 .0 ≡ number4 (now (board .entry)) (place + 4)) × (r .r .0 ≡ number4 (now (board .entry)) (place + 8)) ⌝ }
 {
-    let place = spot.place;
-    let st = claims::claimed(board, inverses, g, claim, spot.l, spot.i);
     let t1 = fields::as_element(board, place);
     let t2 = fields::as_element(board, place + 4);
     let r = fields::as_exponent(board, place + 8);
-    let shown = Shown { t1, t2, r };
-    crate::statement_holds(g.group.p, bases.first, bases.second, st, shown, e)
+    Shown { t1, t2, r }
 }
 
 // Where a proof stands, its branches, and the statements of each.
@@ -62,7 +42,8 @@ pub struct Shape {
     pub statements: usize,
 }
 
-// A proof, under a prefix fed to the hasher: the first failing statement leaves both loops, over branches and statements.
+// A proof, whose label and context are fed to the hasher: A and B of a statement are worked out once, for its equations and for the message. The first
+// failing statement leaves both loops, over branches and statements.
 pub fn proof_holds(
     board: &[u8],
     inverses: &[u32],
@@ -75,7 +56,7 @@ pub fn proof_holds(
     requires { ⌜ Ready g ⌝ }
     requires { ⌜ shape .at + shape .branches * (4 + 12 * shape .statements) ≤ length (now board) ⌝ }
     requires { ⌜ ((l i : ℕ) → l < shape .branches → i < shape .statements → Within (now board) (now inverses) (parametersOf (g .group)) claim l i) ⌝ }
-    ensures { λ r. ⌜ ((m : List ℕ) → Fed prefix m → r ≡ proofHolds (now (board .entry)) (shape .at) (shape .branches) (shape .statements) sha256 m (g .group .p) (g .group .q) (bases .first .0) (bases .second .0) (claimOf (now (board .entry)) (parametersOf (g .group)) claim)) ⌝ }
+    ensures { λ r. ⌜ ((label : List ℕ) (c : Context) → Fed prefix (label ++ contextBytes c) → r ≡ proofHolds (now (board .entry)) (shape .at) (shape .branches) (shape .statements) sha256 label c (g .group .p) (g .group .q) (bases .first .0) (bases .second .0) (claimOf (now (board .entry)) (parametersOf (g .group)) claim)) ⌝ }
 {
     let at = shape.at;
     let branches = shape.branches;
@@ -88,13 +69,13 @@ pub fn proof_holds(
         let e = fields::as_exponent(board, from);
         sum = group::add(g.group.q, sum, e);
         for i in 0..statements {
-            let place = from + 4 + 12 * i;
-            let spot = Spot { l, i, place };
-            if !statement_at(board, inverses, bases, g, claim, spot, e) {
+            let st = claims::claimed(board, inverses, g, claim, l, i);
+            let shown = shown_at(board, from + 4 + 12 * i);
+            if !crate::statement_holds(g.group.p, bases.first, bases.second, st, shown, e) {
                 ok = false;
                 break 'branches;
             }
-            h = h.update(&board[place..place + 8]);
+            h = challenges::feed_statement(h, st.left, st.right, shown.t1, shown.t2);
         }
     }
     if !ok {

@@ -19,7 +19,7 @@ use Rattle.rules.specs.Bytes.{number2, number4, bytes2, bytes4, Stands}
 use Rattle.group.specs.Elements.{Parameters, isElement}
 use Rattle.rules.specs.Group.{generators, derived}
 use Rattle.group.specs.Arithmetic.{powMod}
-use Rattle.rules.specs.Records.{HD, hasMark}
+use Rattle.rules.specs.Records.{HF, hasMark}
 use Rattle.rules.specs.Count.{start, isRanking, table, plainCount}
 use Rattle.rules.specs.Header.{ranked, header}
 use Rattle.rules.specs.Check.{checkFrom, accepted, checkModel, checkBoard, matrix}
@@ -66,14 +66,14 @@ module _ (hash : List ℕ → List ℕ) (job : Job) (f : Fine hash job) where
   word-behind front x rest l e =
       rw zero-add at (word-stands l (stands-left (bytes4 x) rest (stands-right front (bytes4 x ++ rest) refl (subst (Stands s 0) (sym e) (stands-whole s)))))
 
-  fields : (hasMark s 0 HD ≡ true) × (getD s 2 0 ≡ job .n) × (number2 s 3 ≡ job .K) × (number4 s 5 ≡ job .p) × (number4 s 9 ≡ job .q)
+  fields : (hasMark s 0 HF ≡ true) × (getD s 2 0 ≡ job .n) × (number2 s 3 ≡ job .K) × (number4 s 5 ≡ job .p) × (number4 s 9 ≡ job .q)
       × (number4 s 13 ≡ job .g0) × (getD s 17 0 ≡ job .counter) × (number4 s 18 ≡ g .g1)
   unfolding board
   fields =
-      let front : List ℕ = 72 ∷ 68 ∷ job .n ∷ bytes2 (job .K) in (
+      let front : List ℕ = 72 ∷ 70 ∷ job .n ∷ bytes2 (job .K) in (
         refl,
         refl,
-        half-stands (omega (arith, f .K-high)) (stands-left (bytes2 (job .K)) _ (stands-right (72 ∷ 68 ∷ job .n ∷ []) _ refl (stands-whole s))),
+        half-stands (omega (arith, f .K-high)) (stands-left (bytes2 (job .K)) _ (stands-right (72 ∷ 70 ∷ job .n ∷ []) _ refl (stands-whole s))),
         word-behind front (job .p) _ (omega (arith, good .small)) refl,
         word-behind (front ++ bytes4 (job .p)) (job .q) _ (omega (arith, good)) refl,
         word-behind (front ++ bytes4 (job .p) ++ bytes4 (job .q)) (job .g0) _ (omega (arith, g0-below, good .small)) refl,
@@ -84,7 +84,7 @@ module _ (hash : List ℕ → List ℕ) (job : Job) (f : Fine hash job) where
   after-g1 : Stands s 22 (job .label ++ later)
   unfolding board
   after-g1 =
-      stands-right (72 ∷ 68 ∷ job .n ∷ bytes2 (job .K) ++ bytes4 (job .p) ++ bytes4 (job .q) ++ bytes4 (job .g0) ++ (job .counter ∷ []) ++ bytes4 (g .g1)) _ refl (stands-whole s)
+      stands-right (72 ∷ 70 ∷ job .n ∷ bytes2 (job .K) ++ bytes4 (job .p) ++ bytes4 (job .q) ++ bytes4 (job .g0) ++ (job .counter ∷ []) ++ bytes4 (g .g1)) _ refl (stands-whole s)
 
   pub header-same : header s ≡ headerOf hash job
   unfolding header

@@ -1,4 +1,4 @@
--- The proofs: the second demand, both halves of the third, the refusals, the receipts and the starred cases.
+-- The proofs: the second demand, both halves of the third, the refusals, the receipts, the messages and the starred cases.
 pub mod Rules
 pub mod Verdicts
 pub mod Sound
@@ -9,4 +9,5 @@ pub mod ThirdDemand
 pub mod Refusals
 pub mod EqualCounts
 pub mod Receipts
+pub mod Messages
 pub mod Worked

@@ -13,7 +13,7 @@ use Rattle.numbers.proofs.Search.{extend}
 use Rattle.numbers.proofs.Tests.{all-at, all-true}
 use Rattle.group.specs.Elements.{Parameters}
 use Rattle.rules.specs.Claims.{Matrix}
-use Rattle.rules.specs.Proofs.{Statement, statementHolds, proofFields, proofHolds}
+use Rattle.rules.specs.Proofs.{Statement, Context, statementHolds, proofFields, proofHolds}
 use Rattle.rules.specs.Tests.{Test, firstFault, _orElse_}
 use Rattle.rules.specs.Header.{Header, header, headerFault}
 use Rattle.rules.specs.Ballot.{pairsGood, ballotFields, ballotProofs, ballotFault}
@@ -63,10 +63,10 @@ module _ (s : List ℕ) (g : Parameters) (at branches statements : ℕ) where
     λ w. simp (all-iff, and-eq-true-iff, leb-iff) (λ l b. (w .e-below l b, λ i c. ((w .t1-element l i b c, w .t2-element l i b c), w .r-below l i b c))),
   )
 
-  proof-rules : (hash : List ℕ → List ℕ) (prefix : List ℕ) (base0 base1 : ℕ) (claim : ℕ → ℕ → Statement) →
-      (proofHolds s at branches statements hash prefix (g .p) (g .q) base0 base1 claim ≡ true) ↔ ProofEquations s g at branches statements hash prefix base0 base1 claim
+  proof-rules : (hash : List ℕ → List ℕ) (label : List ℕ) (context : Context) (base0 base1 : ℕ) (claim : ℕ → ℕ → Statement) →
+      (proofHolds s at branches statements hash label context (g .p) (g .q) base0 base1 claim ≡ true) ↔ ProofEquations s g at branches statements hash label context base0 base1 claim
   unfolding proofHolds statementHolds
-  proof-rules hash prefix base0 base1 claim = (
+  proof-rules hash label context base0 base1 claim = (
     λ t.
         let w = simp (all-iff, and-eq-true-iff, eqb-iff) at t in
         record { first = λ l i b c. w .0 l b i c .0; second = λ l i b c. w .0 l b i c .1; adds-up = w .1 },
@@ -112,16 +112,16 @@ module _ (hash : List ℕ → List ℕ) (s : List ℕ) (h : Header) where
         simp (first-iff, leb-iff, eqb-iff) (w .fits, (w .marked, (w .numbered, (fields, (proofs, fault-none))))),
   )
 
-  shift-rules : (R at a before number : ℕ) → (shiftFault hash s h R at a before number ≡ 0) ↔ ShiftRules hash s h R at a before number
+  shift-rules : (R at round a before number : ℕ) → (shiftFault hash s h R at round a before number ≡ 0) ↔ ShiftRules hash s h R at round a before number
   unfolding shiftFault shiftFields shiftHolds
-  shift-rules R at a before number = (
+  shift-rules R at round a before number = (
     λ f.
         let (fits, (marked, (numbered, (f7, (f8, _))))) = simp (first-iff, leb-iff, eqb-iff) at f in
         let fields = simp (and-eq-true-iff, pair-rules h, field-rules s (h .group)) at f7 in
         record { fits = fits; marked = marked; numbered = numbered; pairs = fields .0; proof-fields = fields .1; proof = simp (proof-rules s (h .group)) at f8 },
     λ w.
         let fields : shiftFields s h R at ≡ true = simp (and-eq-true-iff, pair-rules h, field-rules s (h .group)) (w .pairs, w .proof-fields) in
-        let holds : shiftHolds hash s h R at a before ≡ true = simp (proof-rules s (h .group)) (w .proof) in
+        let holds : shiftHolds hash s h R at round a before ≡ true = simp (proof-rules s (h .group)) (w .proof) in
         simp (first-iff, leb-iff, eqb-iff) (w .fits, (w .marked, (w .numbered, (fields, (holds, fault-none))))),
   )
 
@@ -171,7 +171,7 @@ module _ (s : List ℕ) (h : Header) (at : ℕ) where
 pub record-rules : (hash : List ℕ → List ℕ) (s : List ℕ) (h : Header) (a m k : ℕ) → (recordFault hash s h a m k ≡ 0) ↔ RecordRules hash s h a m k
 unfolding recordFault
 record-rules hash s h a zero k = ballot-rules hash s h (place s h 0 k) (k + 1)
-record-rules hash s h a (suc m) k = shift-rules hash s h (h .n - suc m) (place s h (suc m) k) a (place s h m k) (k + 1)
+record-rules hash s h a (suc m) k = shift-rules hash s h (h .n - suc m) (place s h (suc m) k) (suc m + 1) a (place s h m k) (k + 1)
 
 pub round-sheet-rules : (s : List ℕ) (h : Header) (m out : ℕ) → (roundSheetFault s h m out ≡ 0) ↔ RoundSheetRules s h m out
 round-sheet-rules s h m out = sheet-rules s h (place s h m (h .K)) (m + 1) _ (matrix s h m) out (tally-b s h m (h .K)) (tally-y s h m (h .K))

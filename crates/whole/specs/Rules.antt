@@ -10,11 +10,11 @@ use Rattle.group.specs.Elements.{isElement, Parameters}
 use Rattle.rules.specs.Bytes.{number2, number4}
 use Rattle.rules.specs.Group.{paired, orders, generators}
 use Rattle.rules.specs.Records.{BA, SH, RT, hasMark, headerLength, ballotLength, shiftLength, sheetLength}
-use Rattle.rules.specs.Proofs.{Statement, branchAt, statementAt, commitments, challenge}
+use Rattle.rules.specs.Proofs.{Statement, Context, branchAt, statementAt, commitmentsAt, message, challenge}
 use Rattle.rules.specs.Claims.{Matrix, matrixAt, entryClaim, rowClaim, columnClaim, shiftClaim}
 use Rattle.rules.specs.Header.{sizes, Header, header, counterField}
-use Rattle.rules.specs.Ballot.{entryProof, rowProof, columnProof}
-use Rattle.rules.specs.Shift.{shiftProof}
+use Rattle.rules.specs.Ballot.{entryProof, rowProof, columnProof, entryPlace, rowPlace, columnPlace, ballotContext}
+use Rattle.rules.specs.Shift.{shiftProof, shiftContext}
 use Rattle.rules.specs.Sheet.{outAt, countAt, exponentAt}
 use Rattle.rules.specs.declared.Model.{Model}
 
@@ -47,11 +47,11 @@ module _ (s : List ℕ) (g : Parameters) (at branches statements : ℕ) where
     pub r-below : (l i : ℕ) → l < branches → i < statements → r l i < g .q
 
   -- 8: a proof "holds if for every statement g0^r = t1 × A^e and g1^r = t2 × B^e modulo p, and the challenges add up, modulo q, to c":
-  -- at any two bases, c being made of a prefix and the commitments
-  pub record ProofEquations (hash : List ℕ → List ℕ) (prefix : List ℕ) (base0 base1 : ℕ) (claim : (l i : ℕ) → Statement) : Type 0 where
+  -- at any two bases, c being made of the message under a label, in a context
+  pub record ProofEquations (hash : List ℕ → List ℕ) (label : List ℕ) (context : Context) (base0 base1 : ℕ) (claim : (l i : ℕ) → Statement) : Type 0 where
     pub first : (l i : ℕ) → l < branches → i < statements → powMod (g .p) base0 (r l i) ≡ mulMod (g .p) (t1 l i) (powMod (g .p) (claim l i .left) (e l))
     pub second : (l i : ℕ) → l < branches → i < statements → powMod (g .p) base1 (r l i) ≡ mulMod (g .p) (t2 l i) (powMod (g .p) (claim l i .right) (e l))
-    pub adds-up : sumBelow branches e % g .q ≡ challenge hash prefix (commitments s at branches statements) (g .q)
+    pub adds-up : sumBelow branches e % g .q ≡ challenge hash (message label context branches statements claim (commitmentsAt s at statements)) (g .q)
 
 -- ---- the records, each at its place
 pub record HeaderRules (hash : List ℕ → List ℕ) (model : Model) (s : List ℕ) : Type 0 where
@@ -68,8 +68,13 @@ pub record HeaderRules (hash : List ℕ → List ℕ) (model : Model) (s : List 
 
 module _ (hash : List ℕ → List ℕ) (s : List ℕ) (h : Header) where
   -- a proof at a place, with the bases g0 and g1 and the board's label
-  abbrev pub ProofHolds : (at branches statements : ℕ) (claim : (l i : ℕ) → Statement) → Type 0
-  ProofHolds at branches statements claim = ProofEquations s (h .group) at branches statements hash (h .label) (h .group .g0) (h .group .g1) claim
+  abbrev pub ProofHolds : (context : Context) (at branches statements : ℕ) (claim : (l i : ℕ) → Statement) → Type 0
+  ProofHolds context at branches statements claim =
+      ProofEquations s (h .group) at branches statements hash (h .label) context (h .group .g0) (h .group .g1) claim
+
+  -- of the proof with a place from 0 in the BA record that starts at a place: "its number field" is the record's own
+  abbrev inBallot : (at place : ℕ) → Context
+  inBallot at place = ballotContext (number2 s (at + 2)) place
 
   -- BA, that of the ballot with a number
   pub record BallotRules (at number : ℕ) : Type 0 where
@@ -86,12 +91,14 @@ module _ (hash : List ℕ → List ℕ) (s : List ℕ) (h : Header) where
     pub column-fields : (j : ℕ) → j < h .n → ProofFields s (h .group) (columnProof (h .n) at j) 1 1
     -- 8: "a proof fails"
     pub entries : (i j : ℕ) → i < h .n → j < h .n →
-        ProofHolds (entryProof (h .n) at i j) 2 1 (λ l _. entryClaim (h .group) (matrixAt s (h .n) at .b i j) (matrixAt s (h .n) at .y i j) l)
-    pub rows : (i : ℕ) → i < h .n → ProofHolds (rowProof (h .n) at i) 1 1 (λ _ _. rowClaim (h .group) (h .n) (matrixAt s (h .n) at) i)
-    pub columns : (j : ℕ) → j < h .n → ProofHolds (columnProof (h .n) at j) 1 1 (λ _ _. columnClaim (h .group) (h .n) (matrixAt s (h .n) at) j)
+        ProofHolds (inBallot at (entryPlace (h .n) i j)) (entryProof (h .n) at i j) 2 1 (λ l _. entryClaim (h .group) (matrixAt s (h .n) at .b i j) (matrixAt s (h .n) at .y i j) l)
+    pub rows : (i : ℕ) → i < h .n →
+        ProofHolds (inBallot at (rowPlace (h .n) i)) (rowProof (h .n) at i) 1 1 (λ _ _. rowClaim (h .group) (h .n) (matrixAt s (h .n) at) i)
+    pub columns : (j : ℕ) → j < h .n →
+        ProofHolds (inBallot at (columnPlace (h .n) j)) (columnProof (h .n) at j) 1 1 (λ _ _. columnClaim (h .group) (h .n) (matrixAt s (h .n) at) j)
 
-  -- SH of R rows; the same ballot's record a round earlier stands at before, and a went out in that round
-  pub record ShiftRules (R at a before number : ℕ) : Type 0 where
+  -- SH of R rows, in a round from 1; the same ballot's record a round earlier stands at before, and a went out in that round
+  pub record ShiftRules (R at round a before number : ℕ) : Type 0 where
     -- 1, 2 and 6
     pub fits : at + shiftLength (h .n) R ≤ length s
     pub marked : hasMark s at SH ≡ true
@@ -100,7 +107,7 @@ module _ (hash : List ℕ → List ℕ) (s : List ℕ) (h : Header) where
     pub pairs : PairRules (h .group) R (h .n) (matrixAt s (h .n) at)
     pub proof-fields : ProofFields s (h .group) (shiftProof (h .n) R at) (R + 1) (2 + R * h .n)
     -- 8
-    pub proof : ProofHolds (shiftProof (h .n) R at) (R + 1) (2 + R * h .n)
+    pub proof : ProofHolds (shiftContext round (number2 s (at + 2))) (shiftProof (h .n) R at) (R + 1) (2 + R * h .n)
         (λ l i. shiftClaim (h .group) (h .n) (matrixAt s (h .n) before) (matrixAt s (h .n) at) (a - 1) l i)
 
 -- RT, that of a round, from 1, whose ballots have these matrices; out: what its out field is to hold

@@ -19,7 +19,7 @@ use Rattle.whole.specs.Rules.{HeaderRules, BallotRules, ShiftRules, Shee
 -- ballot k's record in round m: BA in the first round, SH in each further one, a having gone out in the round before
 abbrev pub RecordRules : (hash : List ℕ → List ℕ) (s : List ℕ) → Header → (a m k : ℕ) → Type 0
 RecordRules hash s h a zero k = BallotRules hash s h (place s h 0 k) (k + 1)
-RecordRules hash s h a (suc m) k = ShiftRules hash s h (h .n - suc m) (place s h (suc m) k) a (place s h m k) (k + 1)
+RecordRules hash s h a (suc m) k = ShiftRules hash s h (h .n - suc m) (place s h (suc m) k) (suc m + 1) a (place s h m k) (k + 1)
 
 -- the sheet of round m; out: what its out field is to hold
 abbrev pub RoundSheetRules : (s : List ℕ) → Header → (m out : ℕ) → Type 0

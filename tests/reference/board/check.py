@@ -1,14 +1,17 @@
-"""check.py - the checker: a board read record by record."""
+"""check.py - the checker: a board read record by record.  Words in quotation marks are 01's, on the
+header's mark 02's."""
 from .count import after_out, closes, first_standing, lowest_due, winner_due
 from .group import (Group, g0_holds, g1_holds, group_holds, make_g1, pair_of, product_of,
                     sizes_hold)
-from .proofs import entry_claim, line_claim, proof_holds, shift_claim
+from .proofs import (Context, column_place, entry_claim, entry_place, line_claim, proof_holds,
+                     row_place, shift_claim)
 from .reading import Reading, Refused
-from .sizes import HD_LENGTH, ba_length, rows_of_round, rt_length, sh_length
+from .sizes import HF_LENGTH, ba_length, rows_of_round, rt_length, sh_length
 
 
 def read_header(reading):
-    reading.open(b'HD', HD_LENGTH)
+    # "A header of this model starts HF, and HD meets refusal 2."
+    reading.open(b'HF', HF_LENGTH)
     n = reading.number(1)
     K = reading.number(2)
     p = reading.number(4)
@@ -77,17 +80,18 @@ def read_ballot(reading, group, n, k):
     row_proofs = [read_proof(reading, group, 1, 1) for _ in range(n)]
     column_proofs = [read_proof(reading, group, 1, 1) for _ in range(n)]
     # "BA, SH: a proof fails | 8"
+    def test(place, claim, proof):
+        if not proof_holds(group, Context(b'BA', k, 1, place), claim, proof):
+            reading.refuse(8)
+
     for i in range(n):
         for j in range(n):
-            if not proof_holds(group, entry_claim(group, matrix[i][j]), entry_proofs[i][j]):
-                reading.refuse(8)
+            test(entry_place(n, i, j), entry_claim(group, matrix[i][j]), entry_proofs[i][j])
     for i in range(n):
-        if not proof_holds(group, line_claim(group, matrix[i]), row_proofs[i]):
-            reading.refuse(8)
+        test(row_place(n, i), line_claim(group, matrix[i]), row_proofs[i])
     for j in range(n):
         column = [matrix[i][j] for i in range(n)]
-        if not proof_holds(group, line_claim(group, column), column_proofs[j]):
-            reading.refuse(8)
+        test(column_place(n, j), line_claim(group, column), column_proofs[j])
     reading.close()
     return matrix
 
@@ -100,7 +104,8 @@ def read_shift(reading, group, n, m, k, previous, a):
         reading.refuse(6)
     matrix = read_matrix(reading, group, R, n)
     proof = read_proof(reading, group, R + 1, 2 + R * n)
-    if not proof_holds(group, shift_claim(group, previous, matrix, a), proof):
+    claim = shift_claim(group, previous, matrix, a)
+    if not proof_holds(group, Context(b'SH', k, m, 0), claim, proof):
         reading.refuse(8)
     reading.close()
     return matrix

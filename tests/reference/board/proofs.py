@@ -1,5 +1,7 @@
-"""proofs.py - what the proofs claim, and when a proof holds."""
+"""proofs.py - what the proofs claim, and when a proof holds.  Words in quotation marks are 01's, on
+the challenge's message 02's."""
 import hashlib
+from collections import namedtuple
 
 from .group import over, power, product_of, times
 
@@ -51,16 +53,42 @@ def shift_claim(group, previous, new, a):
 # "It shows per branch a challenge e, and per statement commitments t1, t2 and a response r."
 # A proof is a list of branches (e, [(t1, t2, r), ...]).
 
-def challenge(group, proof):
-    """"c is the first 8 bytes of SHA-256(label, then t1, t2 of every statement in order),
-    modulo q." """
-    message = group.label
-    parts = [message]
-    for _, lines in proof:
-        for t1, t2, _ in lines:
-            parts.append(t1.to_bytes(4, 'big'))
-            parts.append(t2.to_bytes(4, 'big'))
-    digest = hashlib.sha256(b''.join(parts)).digest()
+# mark, number: the record's; round: 1 for BA; place: the proof's place in the record, from 0
+Context = namedtuple('Context', 'mark number round place')
+
+
+def entry_place(n, i, j):
+    """"n^2 entry, n row, n column proofs", in this order, entries by rows; i, j from 0."""
+    return i * n + j
+
+
+def row_place(n, i):
+    return n * n + i
+
+
+def column_place(n, j):
+    return n * n + n + j
+
+
+def be(value, width):
+    """"All fields are unsigned, high byte first." """
+    return value.to_bytes(width, 'big')
+
+
+def message(group, context, claim, proof):
+    """"The message becomes: label, the record's mark, its number field, the round (1 byte, 1 for
+    BA), the proof's place in the record from 0 (2 bytes), then per statement A, B, t1, t2." """
+    parts = [group.label, context.mark, be(context.number, 2), be(context.round, 1),
+             be(context.place, 2)]
+    for branch, (_, lines) in zip(claim, proof, strict=True):
+        for (A, B), (t1, t2, _) in zip(branch, lines, strict=True):
+            parts += [be(A, 4), be(B, 4), be(t1, 4), be(t2, 4)]
+    return b''.join(parts)
+
+
+def challenge(group, hashed):
+    """"c is the first 8 bytes of SHA-256" of the message, "modulo q." """
+    digest = hashlib.sha256(hashed).digest()
     return int.from_bytes(digest[:8], 'big') % group.q
 
 
@@ -71,10 +99,11 @@ def statement_holds(group, statement, e, t1, t2, r):
             and power(group, group.g1, r) == times(group, t2, power(group, B, e)))
 
 
-def proof_holds(group, claim, proof):
+def proof_holds(group, context, claim, proof):
     for branch, (e, lines) in zip(claim, proof, strict=True):
         for statement, (t1, t2, r) in zip(branch, lines, strict=True):
             if not statement_holds(group, statement, e, t1, t2, r):
                 return False
     # "and the challenges add up, modulo q, to c."
-    return sum(e for e, _ in proof) % group.q == challenge(group, proof)
+    c = challenge(group, message(group, context, claim, proof))
+    return sum(e for e, _ in proof) % group.q == c

@@ -1,7 +1,7 @@
 """sizes.py - lengths of records and boards, and draws that they need."""
 
 BOARDCHECK_LIMIT = 65536        # "boardcheck, serves boards up to 65,536 bytes"
-HD_LENGTH = 54                  # "HD | n 1, K 2, p 4, q 4, g0 4, counter 1, g1 4, label 32 | 54"
+HF_LENGTH = 54                  # "n 1, K 2, p 4, q 4, g0 4, counter 1, g1 4, label 32 | 54"
 
 
 def ba_length(n):
@@ -23,7 +23,7 @@ def rows_of_round(n, m):
 def board_length(n, K, rounds):
     """"A board is HD, K BA numbered 1 to K, RT; each further round is K SH, numbered
     alike, then RT." """
-    total = HD_LENGTH + K * ba_length(n) + rt_length(n)
+    total = HF_LENGTH + K * ba_length(n) + rt_length(n)
     for m in range(2, rounds + 1):
         total += K * sh_length(n, rows_of_round(n, m)) + rt_length(n)
     return total

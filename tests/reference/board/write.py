@@ -2,7 +2,8 @@
 from .group import (Group, g0_holds, g1_holds, group_holds, make_g1, over, pair_of, power,
                     sizes_hold)
 from .plain_count import plain_count
-from .proofs import challenge, entry_claim, line_claim, shift_claim
+from .proofs import (Context, be, challenge, column_place, entry_claim, entry_place, line_claim,
+                     message, row_place, shift_claim)
 from .sizes import board_length, draws_needed
 
 
@@ -18,7 +19,7 @@ class Draws:
         return self.draws[self.used - 1]
 
 
-def make_proof(group, claim, true_branch, witnesses, draws):
+def make_proof(group, context, claim, true_branch, witnesses, draws):
     """"then per proof and branch, false branches a challenge and their responses, the true
     one its nonces (t1 = g0^nonce, t2 = g1^nonce).  A false branch's commitments follow from
     its equations." """
@@ -40,16 +41,12 @@ def make_proof(group, claim, true_branch, witnesses, draws):
             proof.append((e, lines))
     # "the challenges add up, modulo q, to c": this fixes the true branch's challenge, and
     # the equations g0^r = t1 * A^e, g1^r = t2 * B^e then fix its responses.
-    c = challenge(group, proof)
+    c = challenge(group, message(group, context, claim, proof))
     e = (c - sum(f for f, _ in proof if f is not None)) % group.q
     lines = [(t1, t2, (k + e * w) % group.q)
              for (t1, t2, _), k, w in zip(proof[true_branch][1], nonces, witnesses, strict=True)]
     proof[true_branch] = (e, lines)
     return proof
-
-
-def be(value, width):
-    return value.to_bytes(width, 'big')
 
 
 def matrix_bytes(matrix):
@@ -66,7 +63,7 @@ def proof_bytes(proof):
 
 
 def header_bytes(n, K, p, q, g0, counter, g1, label):
-    return (b'HD' + be(n, 1) + be(K, 2) + be(p, 4) + be(q, 4) + be(g0, 4) + be(counter, 1)
+    return (b'HF' + be(n, 1) + be(K, 2) + be(p, 4) + be(q, 4) + be(g0, 4) + be(counter, 1)
             + be(g1, 4) + label)
 
 
@@ -93,25 +90,27 @@ def draw_matrix(group, n, processes, draws):
 def write_ballot(group, n, k, ranking, draws):
     xs, matrix = draw_matrix(group, n, ranking, draws)
     parts = [b'BA', be(k, 2), matrix_bytes(matrix)]
+
+    def prove(place, claim, true_branch, witness):
+        proof = make_proof(group, Context(b'BA', k, 1, place), claim, true_branch, [witness], draws)
+        parts.append(proof_bytes(proof))
+
     for i in range(n):
         for j in range(n):
-            true_branch = 1 if ranking[i] == j + 1 else 0
-            proof = make_proof(group, entry_claim(group, matrix[i][j]), true_branch,
-                               [xs[i][j]], draws)
-            parts.append(proof_bytes(proof))
+            prove(entry_place(n, i, j), entry_claim(group, matrix[i][j]),
+                  1 if ranking[i] == j + 1 else 0, xs[i][j])
     for i in range(n):
-        proof = make_proof(group, line_claim(group, matrix[i]), 0, [sum(xs[i]) % group.q], draws)
-        parts.append(proof_bytes(proof))
+        prove(row_place(n, i), line_claim(group, matrix[i]), 0, sum(xs[i]) % group.q)
     for j in range(n):
         column = [matrix[i][j] for i in range(n)]
-        witness = sum(xs[i][j] for i in range(n)) % group.q
-        proof = make_proof(group, line_claim(group, column), 0, [witness], draws)
-        parts.append(proof_bytes(proof))
+        prove(column_place(n, j), line_claim(group, column), 0,
+              sum(xs[i][j] for i in range(n)) % group.q)
     return b''.join(parts), xs, matrix
 
 
-def write_shift(group, n, k, a, processes, old_xs, old_matrix, draws):
-    """processes: the list of the matrix before.  Returns record, new list, xs, matrix."""
+def write_shift(group, n, m, k, a, processes, old_xs, old_matrix, draws):
+    """The shift of round m.  processes: the list of the matrix before.  Returns record, new list,
+    xs, matrix."""
     l = processes.index(a) + 1                       # the row struck
     new_processes = [i for i in processes if i != a]
     xs, matrix = draw_matrix(group, n, new_processes, draws)
@@ -121,7 +120,8 @@ def write_shift(group, n, k, a, processes, old_xs, old_matrix, draws):
         source = old_xs[i - 1] if i < l else old_xs[i]
         for j in range(1, n + 1):
             witnesses.append((xs[i - 1][j - 1] - source[j - 1]) % group.q)
-    proof = make_proof(group, shift_claim(group, old_matrix, matrix, a), l - 1, witnesses, draws)
+    proof = make_proof(group, Context(b'SH', k, m, 0), shift_claim(group, old_matrix, matrix, a),
+                       l - 1, witnesses, draws)
     record = b'SH' + be(k, 2) + matrix_bytes(matrix) + proof_bytes(proof)
     return record, new_processes, xs, matrix
 
@@ -165,7 +165,7 @@ def write_records(group, n, counter, lists, count, source):
             a = outs[m - 2]
             for k in range(K):
                 record, lists[k], all_xs[k], all_matrices[k] = write_shift(
-                    group, n, k + 1, a, lists[k], all_xs[k], all_matrices[k], source)
+                    group, n, m, k + 1, a, lists[k], all_xs[k], all_matrices[k], source)
                 parts.append(record)
         out = outs[m - 1] if m < rounds else 0
         parts.append(sheet_bytes(m, out, all_counts[m - 1], first_row_sums(group, n, all_xs)))

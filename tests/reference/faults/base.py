@@ -19,6 +19,7 @@ class Base:
         flat = [x for r in lists for x in r]
         answer = ref.write(n, self.K, self.p, self.q, self.g0, self.counter, self.label, flat,
                            draws, 10 ** 9)
+        self.draws = draws
         assert answer[0] == 'written'
         self.board = answer[1]
         self.accepted = ('accepted', self.rounds, self.outs, self.winner)
@@ -39,6 +40,11 @@ class Base:
 
     def records(self):
         return [self.record(i) for i in range(len(self.starts) - 1)]
+
+    def xs(self, k):
+        """The x of ballot k's pairs, by rows: the first of its draws."""
+        start = (k - 1) * ref.ba_draws(self.n)
+        return [self.draws[start + i * self.n:start + (i + 1) * self.n] for i in range(self.n)]
 
     def craft(self, seed):
         return Craft(self.n, self.K, self.p, self.q, self.g0, self.counter, self.label, seed)

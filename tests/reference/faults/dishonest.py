@@ -5,6 +5,8 @@ from gen import HOUSE
 from . import ballots, elements, sheets, shifts
 from .election import LISTS3, P23, PAIRS4, Crafts, election, join
 from .forged import forged
+from .messages import boards_of_01, other_messages
+from .moved import moved
 from .ties import ties
 
 
@@ -29,6 +31,9 @@ def dishonest(out, rng):
     elements.zeros(out, new)
     forged(out, rng, new)
     ties(out, new)
+    other_messages(out, new)
+    boards_of_01(out, new)
+    moved(out, new)
 
 
 def honest(out, new):

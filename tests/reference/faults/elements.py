@@ -1,7 +1,6 @@
 """elements.py - elements outside the group where every equation holds; zeros, which may stand."""
 import boardref as ref
 import gen
-from boardref import be
 from craft import layout
 from gen import HOUSE
 
@@ -15,21 +14,29 @@ def number_at(board, f):
     return int.from_bytes(board[f.start:f.start + 4], 'big')
 
 
-def unseen_places(board, order):
-    """(ballot k, column j from 0) of the pairs of row 2, which no tally reads, where every
-    challenge that touches the pair is a multiple of the order."""
-    for k in (1, 2):
-        for j in (0, 1):
-            touching = [f for f in FIELDS if f.record == k and f.kind == 'e'
-                        and f.detail[:2] in (('entry', 2 + j), ('row', 1), ('col', j))]
-            if all(number_at(board, f) % order == 0 for f in touching):
-                yield k, j
+def unseen(board, k, j, order):
+    """Is every challenge that touches the pair of ballot k, row 2, column j (from 0) a multiple of
+    the order?  No tally reads that row."""
+    return all(number_at(board, f) % order == 0 for f in FIELDS
+               if f.record == k and f.kind == 'e'
+               and f.detail[:2] in (('entry', 2 + j), ('row', 1), ('col', j)))
 
 
-def times_outsider(board, kind, k, j, outsider, p):
-    """The board with that b or Y times a number outside the group."""
-    f = next(f for f in FIELDS if f.record == k and f.kind == kind and f.detail == (1, j))
-    return board[:f.start] + be(number_at(board, f) * outsider % p, 4) + board[f.start + 4:]
+def with_outsider(c, kind, k, j, outsider):
+    """Records of a board whose b or Y of ballot k, row 2, column j (from 0) is times a number outside
+    the group, and its outcome.  The proofs claim that pair."""
+    made, inside = [], c.matrix
+
+    def matrix(V, X=None):
+        X, M = inside(V, X)
+        made.append(M)
+        if len(made) == k:
+            b, y = M[1][j]
+            M[1][j] = (b * outsider % c.group.p, y) if kind == 'b' else (b, y * outsider % c.group.p)
+        return X, M
+
+    c.matrix = matrix
+    return election(c, LISTS2)
 
 
 def passes_without_membership(board, answer):
@@ -48,40 +55,30 @@ def passes_without_membership(board, answer):
         ref.Reading.element = keep
 
 
+def only_membership(out, name, new, group, kind, outsider, order, note):
+    """Three boards of which every equation holds, since the challenges that touch the outsider are
+    multiples of its order, and every challenge is the due one."""
+    for k, j in ((1, 0), (2, 0), (2, 1)):
+        while True:
+            records, *outcome = with_outsider(new(2, 2, group), kind, k, j, outsider)
+            if unseen(join(records), k, j, order):
+                break
+        assert passes_without_membership(join(records), ('accepted', *outcome))
+        out.add(name, join(records), ('refused', 7, k), note)
+
+
 def order_2(out, new):
-    """"Passing elements outside the order-q group": -b or -Y where every challenge that touches
-    the pair is even.  All equations hold; only the membership test sees it.  House group."""
+    """"Passing elements outside the order-q group": -b or -Y, challenges even.  House group."""
     for kind in ('b', 'Y'):
-        made = 0
-        while made < 3:
-            c = new(2, 2)
-            records, *outcome = election(c, LISTS2)
-            board = join(records)
-            places = list(unseen_places(board, 2))
-            if not places:
-                continue
-            k, j = places[-1]
-            bad = times_outsider(board, kind, k, j, -1, c.group.p)
-            assert passes_without_membership(bad, ('accepted', *outcome))
-            out.add('minus', bad, ('refused', 7, k), '-%s, every equation holds' % kind)
-            made += 1
+        only_membership(out, 'minus', new, HOUSE, kind, -1, 2, '-%s, every equation holds' % kind)
 
 
 def order_3(out, rng, new):
-    """In a group with a cofactor: pair times an element of small order, challenges multiples of it
-    (p = 2^31-1, q = 331: order 3)."""
-    made = 0
+    """In a group with a cofactor: p = 2^31-1, q = 331, an element of order 3."""
     p, q = 2147483647, 331
     g0 = gen.elements_g0(rng, p, q)
     order3 = next(x for x in (pow(h, (p - 1) // 3, p) for h in range(2, 50)) if x != 1)
-    while made < 3:
-        records, *outcome = election(new(2, 2, (p, q, g0)), LISTS2)
-        board = join(records)
-        for k, j in unseen_places(board, 3):
-            bad = times_outsider(board, 'b', k, j, order3, p)
-            assert passes_without_membership(bad, ('accepted', *outcome))
-            out.add('order3', bad, ('refused', 7, k), 'b times an element of order 3')
-            made += 1
+    only_membership(out, 'order3', new, (p, q, g0), 'b', order3, 3, 'b times an element of order 3')
 
 
 def zeros(out, new):

@@ -1,7 +1,7 @@
 """records.py - boards cut and extended; records out of order, or from elsewhere."""
 import boardref as ref
 from boardref import be
-from craft import Craft, permutation_matrix
+from craft import permutation_matrix
 
 
 def cuts_and_tails(out, rng, base, every_byte=False):
@@ -43,7 +43,7 @@ def record_order(out, rng, base):
     exchanged(out, base, R)
     marks_exchanged(out, base, R)
     other = [R[1], R[0]] + R[2:]
-    out.add(base.name + '_swap', b''.join(other), ('refused', 2, 0), 'BA before HD')
+    out.add(base.name + '_swap', b''.join(other), ('refused', 2, 0), 'BA before HF')
 
 
 def fewer_or_more(out, base, R):
@@ -86,22 +86,22 @@ def marks_exchanged(out, base, R):
 
 
 def replays(out, rng, base):
-    """Whole ballots taken from elsewhere: their proofs hold, the tally does not."""
+    """Ballots taken from elsewhere: the proofs fail of one that is copied, and the tally of one that
+    is proved for its place."""
     R = base.records()
     K = base.K
+    V = permutation_matrix(base.n, base.lists[0])
+
+    def add(k, record, number, at, note):
+        out.add(base.name + '_replay', b''.join(R[:k] + [record] + R[k + 1:]),
+                ('refused', number, at), note, sure=not base.tiny)
+
     if K > 1:
-        copy = R[:]
-        copy[2] = R[1][:2] + be(2, 2) + R[1][4:]
-        out.add(base.name + '_replay', b''.join(copy), ('refused', 10, K + 1),
-                'ballot 1 again as ballot 2', sure=not base.tiny)
-    crafted = base.craft(99)
-    fresh = crafted.ballot(1, permutation_matrix(base.n, base.lists[0]))
-    copy = R[:]
-    copy[1] = fresh
-    out.add(base.name + '_replay', b''.join(copy), ('refused', 10, K + 1),
-            'ballot 1 made anew', sure=not base.tiny)
-    other = Craft(base.n, K, base.p, base.q, base.g0, base.counter, base.label, 98)
+        add(2, b'BA' + be(2, 2) + R[1][4:], 8, 2, 'ballot 1 again as ballot 2')
+        proved = base.craft(97).ballot(2, V, X=base.xs(1))
+        assert proved[4:4 + 8 * base.n ** 2] == R[1][4:4 + 8 * base.n ** 2]
+        add(2, proved, 10, K + 1, 'ballot 1 again as ballot 2, proved as such')
+    add(1, base.craft(99).ballot(1, V), 10, K + 1, 'ballot 1 made anew')
+    other = base.craft(98)
     other.group = other.group._replace(label=bytes(32))
-    copy[1] = other.ballot(1, permutation_matrix(base.n, base.lists[0]))
-    out.add(base.name + '_replay', b''.join(copy), ('refused', 8, 1),
-            'ballot 1 proved under another label', sure=not base.tiny)
+    add(1, other.ballot(1, V), 8, 1, 'ballot 1 proved under another label')

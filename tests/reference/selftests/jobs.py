@@ -12,7 +12,7 @@ from .counts import second_count
 
 def sheets_of(board, n, K, rounds):
     """Rounds, outs and counts read straight off the sheets by their known places."""
-    outs, counts, place = [], [], ref.HD_LENGTH + K * ref.ba_length(n)
+    outs, counts, place = [], [], ref.HF_LENGTH + K * ref.ba_length(n)
     for m in range(1, rounds + 1):
         if m > 1:
             place += K * ref.sh_length(n, n - m + 1)
@@ -114,8 +114,8 @@ def random_jobs(count, seed):
         rounds_seen[seen] = rounds_seen.get(seen, 0) + 1
         if i % 10 == 0:
             job_varied(rng, job, answer)
-        # a byte changed anywhere never leaves the board accepted (t1, t2 and label are hashed,
-        # all else is bound by an equation) except by luck in a tiny group
+        # a byte changed anywhere never leaves the board accepted (label, frames, pairs, t1 and t2
+        # are hashed, all else is bound by an equation) except by luck in a tiny group
         key = answer_after_flip(rng, answer[1])
         refusals[key] = refusals.get(key, 0) + 1
     return rounds_seen, refusals

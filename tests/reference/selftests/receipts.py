@@ -38,7 +38,7 @@ def find_by_hand(board):
     assert ref.find(board[:1433], rising, 3) == ('refused', 1, 3)
     assert ref.find(board[:974] + b'SH' + board[976:], rising, 3) == ('refused', 2, 3)
     assert ref.find(board[:976] + be(2, 2) + board[978:], rising, 3) == ('refused', 6, 3)
-    assert ref.find(b'HF' + board[2:], b'', 0) == ('refused', 2, 0)
+    assert ref.find(b'HD' + board[2:], b'', 0) == ('refused', 2, 0)
 
 
 def second_find(board, digests, room):

@@ -10,7 +10,7 @@ use Rattle.group.specs.Elements.{parametersOf}
 use Rattle.statements.specs.Claims.{claimOf}
 use Rattle.output.specs.Written.{written}
 use Rattle.output.proofs.Laws.{none}
-use Rattle.proving.specs.Plans.{draftCommitments, draftBranch}
+use Rattle.proving.specs.Plans.{branchSaid, draftCommitments, draftBranch}
 use Rattle.proving.proofs.Branches.{fed-more}
 use Rattle.proving.proofs.Joining.{held-more, in-proof}
 use borrow.Author.Needs.{needs}
@@ -22,7 +22,7 @@ Inv-loop out₀ g page inverses plan draws branches width h₀ l₀ out h l =
     let G = parametersOf (g .group) in
     let C = claimOf page G (plan .claim) in
     (l ≤ plan .branches) × (length out ≡ length out₀) × (out ≡ written (concatBelow l (draftBranch G C plan draws)) out₀)
-    × ((m : List ℕ) → Fed h₀ m → Fed h (m ++ concatBelow l (λ l. concatBelow (plan .statements) (draftCommitments G C plan draws l))))
+    × ((m : List ℕ) → Fed h₀ m → Fed h (m ++ concatBelow l (λ l. branchSaid (plan .statements) (C l) (draftCommitments G C plan draws l))))
 
 abbrev μ-loop : tie.MeasureT-loop
 μ-loop out₀ g page inverses plan draws branches width h₀ l₀ out h l = plan .branches - l
@@ -54,7 +54,7 @@ loop-again c =
       omega arith,
       search needs,
       held-more g cl (f .plan) (now (f .draws)) (l .l) _ (now (f .out)) (l .out) _ _ _ refl (l .inv .2) b,
-      λ m h. fed-more (λ l. concatBelow (f .plan .statements) (draftCommitments g cl (f .plan) (now (f .draws)) l)) (l .l) m _ (b .fed _ (l .inv .3 m h)),
+      λ m h. fed-more (λ l. branchSaid (f .plan .statements) (cl l) (draftCommitments g cl (f .plan) (now (f .draws)) l)) (l .l) m _ (b .fed _ (l .inv .3 m h)),
     )
 
 returns : tie.Need-returns Inv-loop μ-loop

@@ -32,18 +32,18 @@ answer-requires c κs =
     )
 
 returns : tie.Need-returns
-returns c m fed =
+returns c label context fed =
     let w = c .before .before .before .before in
     let s = start (held w) in
     let f = s .args in
     let g = parametersOf (f .g .group) in
     let cl = claimOf (now (f .page)) g (f .maker .plan .claim) in
     let all = held w .before .before .commit .ensures in
-    let digest = w .before .before .before .before .before .finish .ensures _ (all .fed m fed) in
+    let digest = w .before .before .before .before .before .finish .ensures _ (all .fed _ fed) in
     let sum = w .before .before .before .before .before .before .false-complements .ensures .0 in
-    let e = challenge-is m g cl (f .maker) (now (f .draws)) _ _ _ _ digest
+    let e = challenge-is label context g cl (f .maker) (now (f .draws)) _ _ _ _ digest
     (w .before .before .before .challenge .ensures) sum (w .before .reduce-exp .ensures) in
-    joined m g cl (f .maker) (now (f .draws)) (s .pre .0 .1 .drawn .known) (now (f .out)) _ _ _ _ _ refl e
+    joined label context g cl (f .maker) (now (f .draws)) (s .pre .0 .1 .drawn .known) (now (f .out)) _ _ _ _ _ refl e
     (w .branch-draws .ensures) (all .wrote) (c .before .before .answer .ensures)
 
 pub make-spec : {M : Type 1} → statement M

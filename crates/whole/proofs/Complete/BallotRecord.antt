@@ -2,7 +2,7 @@
 use Prim.Native.Nat.{ℕ, _+_, _*_, _%_, _<_}
 use native.Mathlib.Nat.{mod-lt}
 use native.Mathlib.Omega.{arith}
-use mathlib.Core.Path.{_≡_, refl}
+use mathlib.Core.Path.{_≡_, refl, ap}
 use mathlib.Core.Bool.{true}
 use mathlib.Core.List.{List, [], _∷_, _++_}
 use lib.ListN.{length, length-append}
@@ -11,10 +11,10 @@ use Rattle.numbers.specs.Below.{concatBelow}
 use Rattle.numbers.proofs.Tests.{and-true}
 use Rattle.group.specs.Elements.{Parameters}
 use Rattle.group.specs.Arithmetic.{powMod}
-use Rattle.rules.specs.Bytes.{bytes2, Stands}
+use Rattle.rules.specs.Bytes.{number2, bytes2, Stands}
 use Rattle.rules.specs.Records.{hasMark, recordLength}
 use Rattle.rules.specs.Claims.{Matrix, matrixAt}
-use Rattle.rules.specs.Ballot.{entryProof, rowProof, columnProof}
+use Rattle.rules.specs.Ballot.{entryProof, rowProof, columnProof, entryPlace, rowPlace, columnPlace, ballotContext}
 use Rattle.rules.proofs.Elements.{Good, root-mul, root-mod, root-element, root-g0, root-g1}
 use Rattle.rules.proofs.Places.{stands-left, stands-right, stands-moved, stands-block, byte-stands, half-stands}
 use Rattle.jobs.specs.Job.{Job, groupOf, headerOf, plainResult, rowsOf, drawsAt}
@@ -58,13 +58,13 @@ module _ (hash : List ℕ → List ℕ) (job : Job) (k : ℕ) where
   g = groupOf hash job
 
   abbrev entry : (i j : ℕ) → Prover
-  entry = entryProver g (job .n) (rowsOf job [] k) (job .draws) (drawsAt (job .n) (job .K) 0 k)
+  entry = entryProver g (job .n) (k + 1) (rowsOf job [] k) (job .draws) (drawsAt (job .n) (job .K) 0 k)
 
   abbrev row : (i : ℕ) → Prover
-  row = rowProver g (job .n) (rowsOf job [] k) (job .draws) (drawsAt (job .n) (job .K) 0 k)
+  row = rowProver g (job .n) (k + 1) (rowsOf job [] k) (job .draws) (drawsAt (job .n) (job .K) 0 k)
 
   abbrev column : (j : ℕ) → Prover
-  column = columnProver g (job .n) (rowsOf job [] k) (job .draws) (drawsAt (job .n) (job .K) 0 k)
+  column = columnProver g (job .n) (k + 1) (rowsOf job [] k) (job .draws) (drawsAt (job .n) (job .K) 0 k)
 
   abbrev thePairs : List ℕ
   thePairs = pairBytes (job .n) (jobMatrix job g [] 0 k) (job .n)
@@ -83,8 +83,8 @@ module _ (hash : List ℕ → List ℕ) (job : Job) (k : ℕ) where
       omega (
         arith,
         length-append theEntries theRows,
-        length-entries hash (job .label) g (job .n) (rowsOf job [] k) (job .draws) (drawsAt (job .n) (job .K) 0 k),
-        length-rows hash (job .label) g (job .n) (rowsOf job [] k) (job .draws) (drawsAt (job .n) (job .K) 0 k),
+        length-entries hash (job .label) g (job .n) (k + 1) (rowsOf job [] k) (job .draws) (drawsAt (job .n) (job .K) 0 k),
+        length-rows hash (job .label) g (job .n) (k + 1) (rowsOf job [] k) (job .draws) (drawsAt (job .n) (job .K) 0 k),
       )
 
   -- ---- the record
@@ -113,10 +113,14 @@ module _ (hash : List ℕ → List ℕ) (job : Job) (k : ℕ) where
         (stands-block (job .n) (job .n * 32) _ (λ i _. length-proofs hash (job .label) g (job .n) 2 1 (entry i) (λ _. refl) (λ _. refl)) (stands-left theEntries theRows two) i a) j b)
 
     row-stands : (i : ℕ) → i < job .n → Stands s (rowProof (job .n) at i) (proofBytes g (row i) hash (job .label))
-    row-stands i a = stands-moved (omega arith) (stands-block (job .n) 16 _ (λ i _. length-proof hash (job .label) g (row i)) (stands-right theEntries theRows (length-entries hash (job .label) g (job .n) (rowsOf job [] k) (job .draws) (drawsAt (job .n) (job .K) 0 k)) two) i a)
+    row-stands i a = stands-moved (omega arith) (stands-block (job .n) 16 _ (λ i _. length-proof hash (job .label) g (row i)) (stands-right theEntries theRows (length-entries hash (job .label) g (job .n) (k + 1) (rowsOf job [] k) (job .draws) (drawsAt (job .n) (job .K) 0 k)) two) i a)
 
     column-stands : (j : ℕ) → j < job .n → Stands s (columnProof (job .n) at j) (proofBytes g (column j) hash (job .label))
     column-stands j a = stands-moved (omega arith) (stands-block (job .n) 16 _ (λ i _. length-proof hash (job .label) g (column i)) (stands-right (theEntries ++ theRows) theColumns two-length three) j a)
+
+    numbered : number2 s (at + 2) ≡ k + 1
+    unfolding ballotBytes
+    numbered = half-stands (omega (arith, f .K-high)) (stands-left (bytes2 (k + 1)) _ (stands-right (66 ∷ 65 ∷ []) _ refl stands))
 
     pub ballot-kept : BallotRules hash s (headerOf hash job) at (k + 1)
     unfolding ballotBytes recordBytes recordLength
@@ -124,18 +128,18 @@ module _ (hash : List ℕ → List ℕ) (job : Job) (k : ℕ) where
         record {
           fits = omega (arith, stands .fits, length-record hash job g [] 0 0 k);
           marked = mark-stands stands;
-          numbered = half-stands (omega (arith, f .K-high)) (stands-left (bytes2 (k + 1)) _ (stands-right (66 ∷ 65 ∷ []) _ refl stands));
+          numbered = numbered;
           pairs = written-good hash job f [] 0 k (job .n) _ ballot-matrix;
           entry-fields = λ i j a b. honest-fields hash (job .label) g _ (entry-honest hash job f k in-round in-ballots i j a b) s _ (entry-stands i j a b);
           row-fields = λ i a. honest-fields hash (job .label) g _ (row-honest hash job f k in-round in-ballots i a) s _ (row-stands i a);
           column-fields = λ j b. honest-fields hash (job .label) g _ (column-honest hash job f k in-round in-ballots j b) s _ (column-stands j b);
           entries = λ i j a b.
-              honest-holds hash (job .label) g _ (entry-honest hash job f k in-round in-ballots i j a b) s _ (entry-stands i j a b) _
+              honest-holds hash (job .label) g _ (entry-honest hash job f k in-round in-ballots i j a b) s _ (entry-stands i j a b) _ (ap (λ (x : ℕ). ballotContext x (entryPlace (job .n) i j)) numbered) _
               (λ l _ _ _. entry-same g (job .n) _ _ (job .n) i j l ballot-matrix a b);
           rows = λ i a.
-              honest-holds hash (job .label) g _ (row-honest hash job f k in-round in-ballots i a) s _ (row-stands i a) _
+              honest-holds hash (job .label) g _ (row-honest hash job f k in-round in-ballots i a) s _ (row-stands i a) _ (ap (λ (x : ℕ). ballotContext x (rowPlace (job .n) i)) numbered) _
               (λ _ _ _ _. row-same g (job .n) _ _ (job .n) i ballot-matrix a);
           columns = λ j b.
-              honest-holds hash (job .label) g _ (column-honest hash job f k in-round in-ballots j b) s _ (column-stands j b) _
+              honest-holds hash (job .label) g _ (column-honest hash job f k in-round in-ballots j b) s _ (column-stands j b) _ (ap (λ (x : ℕ). ballotContext x (columnPlace (job .n) j)) numbered) _
               (λ _ _ _ _. column-same g (job .n) _ _ j ballot-matrix b);
         }

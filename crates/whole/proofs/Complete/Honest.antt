@@ -8,18 +8,18 @@ use mathlib.Core.List.{List, _++_}
 use lib.Dec.{ltb, eqb}
 use borrow.Author.Tests.{ltb-true, ltb-false, eqb-true, eqb-false}
 use Rattle.numbers.specs.Below.{sumBelow, concatBelow}
-use Rattle.rules.specs.Bytes.{number4, part, bytes4, Stands}
+use Rattle.rules.specs.Bytes.{number4, bytes4, Stands}
 use Rattle.group.specs.Elements.{Parameters, isElement}
 use Rattle.group.specs.Arithmetic.{powMod}
 use Rattle.numbers.proofs.Residues.{mul-mod-right}
-use Rattle.rules.specs.Proofs.{Statement, branchAt, statementAt, commitments}
-use Rattle.jobs.specs.Prover.{Prover, committed, wholeChallenge, trueChallenge, challengeOf, responseOf, proofBytes, drawsOf, branchBytes}
+use Rattle.rules.specs.Proofs.{Statement, Commitments, Context, branchAt, statementAt, commitmentsAt}
+use Rattle.jobs.specs.Prover.{Prover, commitmentBytes, committed, wholeChallenge, trueChallenge, challengeOf, responseOf, proofBytes, drawsOf, branchBytes}
 use Rattle.numbers.proofs.Tests.{by-cases}
-use Rattle.numbers.proofs.Blocks.{blocks-same}
 use Rattle.numbers.proofs.Sums.{sum-one-out, sum-same, sum-add, sum-multiples}
 use Rattle.rules.proofs.Elements.{Good, root-mul, root-pow, root-mod, root-element}
 use Rattle.numbers.proofs.Completeness.{false-equation, true-equation}
-use Rattle.rules.proofs.Places.{stands-left, stands-right, stands-moved, stands-block, word-stands, part-stands}
+use Rattle.rules.proofs.Places.{stands-left, stands-right, stands-moved, stands-block, word-stands}
+use Rattle.rules.proofs.Messages.{message-same}
 use Rattle.jobs.proofs.Lengths.{length-branch}
 use Rattle.jobs.proofs.Commitments.{commitment, committed-is}
 use Rattle.whole.specs.Rules.{ProofFields, ProofEquations}
@@ -46,11 +46,14 @@ module _ (hash : List ℕ → List ℕ) (label : List ℕ) (g : Parameters) (pr 
   abbrev commit : (base side l i : ℕ) → ℕ
   commit base side l i = commitment g pr base side l i
 
-  abbrev both : (l i : ℕ) → List ℕ
-  both l i = bytes4 (commit (g .g0) (claim l i .left) l i) ++ bytes4 (commit (g .g1) (claim l i .right) l i)
+  abbrev pair : (l i : ℕ) → Commitments
+  pair l i = record { t1 = commit (g .g0) (claim l i .left) l i; t2 = commit (g .g1) (claim l i .right) l i }
 
-  committed-both : committed g pr ≡ both
-  committed-both = fun-ext (λ l. fun-ext (λ i. committed-is g pr l i))
+  abbrev both : (l i : ℕ) → List ℕ
+  both l i = commitmentBytes (pair l i)
+
+  committed-pair : committed g pr ≡ pair
+  committed-pair = fun-ext (λ l. fun-ext (λ i. committed-is g pr l i))
 
   abbrev whole : ℕ
   whole = wholeChallenge g pr hash label
@@ -134,7 +137,7 @@ module _ (hash : List ℕ → List ℕ) (label : List ℕ) (g : Parameters) (pr 
     unfolding proofBytes branchBytes
     branch-stands l a =
         stands-block branches (4 + 12 * statements) _ (λ l _. length-branch (challenge l) statements (both l) (response l) (λ _ _. refl))
-        (subst (λ (t : ℕ → ℕ → List ℕ). Stands s at (concatBelow branches (λ l. branchBytes (challenge l) statements (t l) (response l)))) committed-both stands) l a
+        (subst (λ (t : ℕ → ℕ → Commitments). Stands s at (concatBelow branches (λ l. branchBytes (challenge l) statements (λ i. commitmentBytes (t l i)) (response l)))) committed-pair stands) l a
 
     read-challenge : (l : ℕ) → l < branches → number4 s (branchAt at statements l) ≡ challenge l
     read-challenge l a = word-stands (omega (arith, challenge-below h l a, h .good)) (stands-left (bytes4 (challenge l)) _ (branch-stands l a))
@@ -145,9 +148,6 @@ module _ (hash : List ℕ → List ℕ) (label : List ℕ) (g : Parameters) (pr 
           stands-moved (omega arith)
           (stands-block statements 12 (λ i. both l i ++ bytes4 (response l i)) (λ _ _. refl) (stands-right (bytes4 (challenge l)) _ refl (branch-stands l a)) i b)
 
-      read-both : part s (statementAt at statements l i) 8 ≡ both l i
-      read-both = part-stands refl (stands-left (both l i) _ statement-stands)
-
       read-first : number4 s (statementAt at statements l i) ≡ commit (g .g0) (claim l i .left) l i
       read-first =
           word-stands (omega (arith, commitment-below h (g .g0) (claim l i .left) l i a b (h .good .root0) (h .root-left l i a b), h .good))
@@ -157,6 +157,9 @@ module _ (hash : List ℕ → List ℕ) (label : List ℕ) (g : Parameters) (pr 
       read-second =
           word-stands (omega (arith, commitment-below h (g .g1) (claim l i .right) l i a b (h .good .root1) (h .root-right l i a b), h .good))
           (stands-left (bytes4 (commit (g .g1) (claim l i .right) l i)) _ (stands-right (bytes4 (commit (g .g0) (claim l i .left) l i)) _ refl statement-stands))
+
+      read-pair : commitmentsAt s at statements l i ≡ committed g pr l i
+      read-pair = rw (read-first, read-second) (sym (committed-is g pr l i))
 
       read-response : number4 s (statementAt at statements l i + 8) ≡ response l i
       read-response =
@@ -171,11 +174,12 @@ module _ (hash : List ℕ → List ℕ) (label : List ℕ) (g : Parameters) (pr 
           r-below = λ l i a b. rw (read-response l i a b) (response-below h l i a b);
         }
 
-    -- the checker's claim need be the writer's at the proof's own branches and statements only
-    pub honest-holds : (claim' : ℕ → ℕ → Statement) → ((l i : ℕ) → l < branches → i < statements → claim' l i ≡ claim l i) →
-        ProofEquations s g at branches statements hash label (g .g0) (g .g1) claim'
-    unfolding powMod commitments wholeChallenge
-    honest-holds claim' same =
+    -- the checker's context is the writer's; its claim need be the writer's at the proof's own branches and statements only
+    pub honest-holds : (context' : Context) → context' ≡ pr .context →
+        (claim' : ℕ → ℕ → Statement) → ((l i : ℕ) → l < branches → i < statements → claim' l i ≡ claim l i) →
+        ProofEquations s g at branches statements hash label context' (g .g0) (g .g1) claim'
+    unfolding powMod wholeChallenge
+    honest-holds context' in-context claim' same =
         record {
           first = λ l i a b.
               rw (same l i a b, read-first l i a b, read-response l i a b, read-challenge l a)
@@ -186,9 +190,8 @@ module _ (hash : List ℕ → List ℕ) (label : List ℕ) (g : Parameters) (pr 
           adds-up =
               rw (
                 sum-same branches (λ l. number4 s (branchAt at statements l)) challenge read-challenge,
-                blocks-same branches (λ l. concatBelow statements (λ i. part s (statementAt at statements l i) 8)) (λ l. concatBelow statements (both l))
-                    (λ l a. blocks-same statements _ (both l) (λ i b. read-both l i a b)),
-                ← committed-both,
+                in-context,
+                message-same label (pr .context) branches statements claim' claim (commitmentsAt s at statements) (committed g pr) same read-pair,
               )
               (challenges h ∙ mod-mod _ (g .q));
         }

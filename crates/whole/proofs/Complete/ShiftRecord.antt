@@ -1,14 +1,14 @@
 -- The record of a shift that a job writes keeps its rules, wherever it and the record a round earlier stand.
 use Prim.Native.Nat.{ℕ, suc, _+_, _-_, _≤_, _<_}
 use native.Mathlib.Omega.{arith}
-use mathlib.Core.Path.{_≡_, refl}
+use mathlib.Core.Path.{_≡_, refl, ap}
 use mathlib.Core.List.{List, [], _∷_, _++_}
 use lib.ListN.{length}
 use Rattle.group.specs.Elements.{Parameters}
-use Rattle.rules.specs.Bytes.{bytes2, Stands}
+use Rattle.rules.specs.Bytes.{number2, bytes2, Stands}
 use Rattle.rules.specs.Records.{recordLength}
 use Rattle.rules.specs.Claims.{Matrix, matrixAt}
-use Rattle.rules.specs.Shift.{shiftProof}
+use Rattle.rules.specs.Shift.{shiftProof, shiftContext}
 use Rattle.rules.proofs.Places.{stands-left, stands-right, stands-moved, half-stands}
 use Rattle.jobs.specs.Job.{Job, groupOf, headerOf, rankingOf, remaining, plainResult, rowsOf, rowOf, drawsAt}
 use Rattle.jobs.specs.Board.{jobMatrix, jobShift, recordBytes}
@@ -37,7 +37,7 @@ module _ (hash : List ℕ → List ℕ) (job : Job) (before : List ℕ) (a m k :
   thePairs = pairBytes (job .n) new R
 
   abbrev theProof : List ℕ
-  theProof = proofBytes g (shiftProver g (job .n) R (rowsOf job before k) (rowsOf job (before ++ (a ∷ [])) k) (rowOf a (remaining before (rankingOf job k))) (a - 1) (job .draws) (drawsAt (job .n) (job .K) m k) (drawsAt (job .n) (job .K) (suc m) k)) hash (job .label)
+  theProof = proofBytes g (shiftProver g (job .n) R (suc m + 1) (k + 1) (rowsOf job before k) (rowsOf job (before ++ (a ∷ [])) k) (rowOf a (remaining before (rankingOf job k))) (a - 1) (job .draws) (drawsAt (job .n) (job .K) m k) (drawsAt (job .n) (job .K) (suc m) k)) hash (job .label)
 
   module _ (f : Fine hash job) (in-round : suc m < plainResult job .rounds) (in-ballots : k < job .K) (rows : suc m ≤ job .n)
       (a-low : 1 ≤ a) (a-high : a ≤ job .n)
@@ -54,7 +54,11 @@ module _ (hash : List ℕ → List ℕ) (job : Job) (before : List ℕ) (a m k :
     proof-stands : Stands s (shiftProof (job .n) R at) theProof
     proof-stands = stands-moved (omega arith) (stands-right thePairs theProof (length-pairs (job .n) new R) after-number)
 
-    pub shift-kept : ShiftRules hash s (headerOf hash job) R at a old (k + 1)
+    numbered : number2 s (at + 2) ≡ k + 1
+    unfolding shiftBytes
+    numbered = half-stands (omega (arith, f .K-high)) (stands-left (bytes2 (k + 1)) _ (stands-right (83 ∷ 72 ∷ []) _ refl stands))
+
+    pub shift-kept : ShiftRules hash s (headerOf hash job) R at (suc m + 1) a old (k + 1)
     unfolding shiftBytes recordBytes recordLength
     shift-kept =
         let e : job .n - m ≡ R + 1 = omega arith in
@@ -62,9 +66,9 @@ module _ (hash : List ℕ → List ℕ) (job : Job) (before : List ℕ) (a m k :
         record {
           fits = omega (arith, stands .fits, length-record hash job g before a (suc m) k);
           marked = mark-stands stands;
-          numbered = half-stands (omega (arith, f .K-high)) (stands-left (bytes2 (k + 1)) _ (stands-right (83 ∷ 72 ∷ []) _ refl stands));
+          numbered = numbered;
           pairs = written-good hash job f (before ++ (a ∷ [])) (suc m) k R _ shift-matrix;
           proof-fields = honest-fields hash (job .label) g _ honest s _ proof-stands;
-          proof = honest-holds hash (job .label) g _ honest s _ proof-stands _
+          proof = honest-holds hash (job .label) g _ honest s _ proof-stands _ (ap (shiftContext (suc m + 1)) numbered) _
               (λ l i b c. shift-same g (job .n) _ _ _ _ R (a - 1) l i (rw e at old-read) shift-matrix (omega arith) b c);
         }

@@ -10,6 +10,7 @@ use lib.ListN.{getD}
 use Rattle.numbers.specs.Below.{sumBelow}
 use Rattle.group.specs.Arithmetic.{powMod}
 use Rattle.rules.specs.Group.{paired}
+use Rattle.rules.specs.Proofs.{Context}
 use Rattle.rules.specs.Claims.{lineClaim, entryClaim}
 use Rattle.jobs.specs.Job.{Job, groupOf, rankingOf, remaining, recordDraws, roundDraws, drawsAt, needed, plainResult, draw, rowsOf}
 use Rattle.rules.proofs.Elements.{Good, power-root, pair-root, paired-mod, root-mod, root-over, root-prod}
@@ -57,7 +58,7 @@ module _ (hash : List ℕ → List ℕ) (job : Job) (f : Fine hash job) (k : ℕ
   entry-roots x v (suc l) = (root-over (groupOf hash job) good _ _ (pair-root (groupOf hash job) good x v) (good .root1), power-root (groupOf hash job) good x)
 
   pub entry-honest : (i j : ℕ) → i < job .n → j < job .n →
-      Honest (groupOf hash job) (entryProver (groupOf hash job) (job .n) (rowsOf job [] k) (job .draws) (drawsAt (job .n) (job .K) 0 k) i j)
+      Honest (groupOf hash job) (entryProver (groupOf hash job) (job .n) (k + 1) (rowsOf job [] k) (job .draws) (drawsAt (job .n) (job .K) 0 k) i j)
   unfolding entryClaim matrixOf powMod recordDraws
   entry-honest i j a b =
       let v : Bool = eqb (getD (remaining [] (rankingOf job k)) i 0) (j + 1) in
@@ -81,10 +82,10 @@ module _ (hash : List ℕ → List ℕ) (job : Job) (f : Fine hash job) (k : ℕ
     abbrev lineSeconds : ℕ → ℕ
     lineSeconds i = powMod (job .p) (groupOf hash job .g1) (x i)
 
-    line-honest : (from : ℕ) → from ≡ drawsAt (job .n) (job .K) 0 k + d →
-        Honest (groupOf hash job) (lineProver (job .draws) (lineClaim (groupOf hash job) (job .n) lineFirsts lineSeconds) (sumBelow (job .n) x) from)
+    line-honest : (c : Context) (from : ℕ) → from ≡ drawsAt (job .n) (job .K) 0 k + d →
+        Honest (groupOf hash job) (lineProver c (job .draws) (lineClaim (groupOf hash job) (job .n) lineFirsts lineSeconds) (sumBelow (job .n) x) from)
     unfolding lineClaim
-    line-honest from e =
+    line-honest c from e =
         record {
           good = good;
           inside = omega arith;
@@ -96,16 +97,16 @@ module _ (hash : List ℕ → List ℕ) (job : Job) (f : Fine hash job) (k : ℕ
           drawn = λ d' l. draw-below hash job f 0 k in-round in-ballots (d + d') _ (omega arith) (omega arith);
         }
 
-  pub row-honest : (i : ℕ) → i < job .n → Honest (groupOf hash job) (rowProver (groupOf hash job) (job .n) (rowsOf job [] k) (job .draws) (drawsAt (job .n) (job .K) 0 k) i)
+  pub row-honest : (i : ℕ) → i < job .n → Honest (groupOf hash job) (rowProver (groupOf hash job) (job .n) (k + 1) (rowsOf job [] k) (job .draws) (drawsAt (job .n) (job .K) 0 k) i)
   unfolding matrixOf recordDraws
   row-honest i a =
       line-honest (λ j. secret job 0 k i j) (λ j. opened (rowsOf job [] k) i j)
       (rw (standing-all (rankingOf job k)) (row-one (job .n) (rankingOf job k) (f .ranked k in-ballots) i a))
-      (4 * (job .n * job .n) + i) (omega arith) _ (omega arith)
+      (4 * (job .n * job .n) + i) (omega arith) _ _ (omega arith)
 
-  pub column-honest : (j : ℕ) → j < job .n → Honest (groupOf hash job) (columnProver (groupOf hash job) (job .n) (rowsOf job [] k) (job .draws) (drawsAt (job .n) (job .K) 0 k) j)
+  pub column-honest : (j : ℕ) → j < job .n → Honest (groupOf hash job) (columnProver (groupOf hash job) (job .n) (k + 1) (rowsOf job [] k) (job .draws) (drawsAt (job .n) (job .K) 0 k) j)
   unfolding matrixOf recordDraws
   column-honest j a =
       line-honest (λ i. secret job 0 k i j) (λ i. opened (rowsOf job [] k) i j)
       (rw (standing-all (rankingOf job k)) (column-one (job .n) (rankingOf job k) (f .ranked k in-ballots) j a))
-      (4 * (job .n * job .n) + job .n + j) (omega arith) _ (omega arith)
+      (4 * (job .n * job .n) + job .n + j) (omega arith) _ _ (omega arith)

@@ -120,7 +120,7 @@ module _ (hash : List ℕ → List ℕ) (job : Job) (f : Fine hash job) (before 
   known-right (suc (suc i)) l = power-over g good _ _ (source-secret i (omega arith))
 
   pub shift-honest :
-      Honest g (shiftProver g (job .n) (job .n - suc m) (rowsOf job before k) (rowsOf job (before ++ (a ∷ [])) k) row (a - 1) (job .draws) (drawsAt (job .n) (job .K) m k) (drawsAt (job .n) (job .K) (suc m) k))
+      Honest g (shiftProver g (job .n) (job .n - suc m) (suc m + 1) (k + 1) (rowsOf job before k) (rowsOf job (before ++ (a ∷ [])) k) row (a - 1) (job .draws) (drawsAt (job .n) (job .K) m k) (drawsAt (job .n) (job .K) (suc m) k))
   unfolding recordDraws
   shift-honest =
       record {

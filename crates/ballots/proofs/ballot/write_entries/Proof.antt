@@ -18,12 +18,12 @@ use Rattle.ballots.proofs.ballot.write_entries.Statement.{statement}
 use Rattle.ballots.proofs.ballot.write_entries.Tie as tie
 
 abbrev Inv-loop : tie.InvT-loop
-Inv-loop out₀ prefix g b page draws n count c₀ out c =
+Inv-loop out₀ labelled g b page draws n count c₀ out c =
     (c ≤ b .n * b .n) × (length out ≡ length out₀)
-    × ((m : List ℕ) → Fed prefix m → out ≡ written (concatBelow c (entryIn m (parametersOf (g .group)) (b .n) (λ k. getD (b .list) k 0) draws (b .from))) out₀)
+    × ((m : List ℕ) → Fed labelled m → out ≡ written (concatBelow c (entryIn m (parametersOf (g .group)) (b .n) (b .number) (λ k. getD (b .list) k 0) draws (b .from))) out₀)
 
 abbrev μ-loop : tie.MeasureT-loop
-μ-loop out₀ prefix g b page draws n count c₀ out c = b .n * b .n - c
+μ-loop out₀ labelled g b page draws n count c₀ out c = b .n * b .n - c
 
 abbrev start-from-loop : tie.At-loop Inv-loop μ-loop → tie.Start Inv-loop μ-loop
 start-from-loop c = c .before .before .before .before
@@ -47,7 +47,7 @@ loop-again c =
     let f = (start-from-slice-known2 c) .args in (
       omega arith,
       search needs,
-      λ m fed. block-more (entryIn m (parametersOf (f .g .group)) (f .b .n) (λ k. getD (f .b .list) k 0) (now (f .draws)) (f .b .from)) 32 (l .c) _ _ (l .out) _ (λ j h. length-proof _ _ _ _) (mul-comm 32 (l .c)) (l .inv .2 m fed) (c .before .before .write-entry .ensures m fed),
+      λ m fed. block-more (entryIn m (parametersOf (f .g .group)) (f .b .n) (f .b .number) (λ k. getD (f .b .list) k 0) (now (f .draws)) (f .b .from)) 32 (l .c) _ _ (l .out) _ (λ j h. length-proof _ _ _ _) (mul-comm 32 (l .c)) (l .inv .2 m fed) (c .before .before .write-entry .ensures m fed),
     )
 
 returns : tie.Need-returns Inv-loop μ-loop

@@ -3,12 +3,11 @@ use mathlib.Core.Path.{_≡_, refl, _∙_}
 use mathlib.Core.List.{List}
 use native.Mathlib.Nat.{mul-comm}
 use native.Mathlib.Omega.{arith}
-use lib.ListN.{length, length-take, length-drop}
+use lib.ListN.{length, getD, length-take, length-drop}
 use denote.Ref.{now}
 use Rattle.numbers.specs.Below.{concatBelow}
 use Rattle.sha256.specs.Feed.{Fed}
 use Rattle.group.specs.Elements.{parametersOf}
-use Rattle.rules.specs.Claims.{Matrix}
 use Rattle.output.specs.Written.{written}
 use Rattle.output.proofs.Laws.{none, block-more}
 use Rattle.ballots.specs.Parts.{lineOf}
@@ -18,12 +17,12 @@ use Rattle.ballots.proofs.lines.write_lines.Statement.{statement}
 use Rattle.ballots.proofs.lines.write_lines.Tie as tie
 
 abbrev Inv-loop : tie.InvT-loop
-Inv-loop out₀ prefix g page b draws n count t₀ out t =
+Inv-loop out₀ labelled g page b draws n count t₀ out t =
     (t ≤ b .n + b .n) × (length out ≡ length out₀)
-    × ((m : List ℕ) → Fed prefix m → (M : Matrix) → out ≡ written (concatBelow t (lineOf m (parametersOf (g .group)) (b .n) M draws (b .from))) out₀)
+    × ((m : List ℕ) → Fed labelled m → out ≡ written (concatBelow t (lineOf m (parametersOf (g .group)) (b .n) (b .number) (λ k. getD (b .list) k 0) draws (b .from))) out₀)
 
 abbrev μ-loop : tie.MeasureT-loop
-μ-loop out₀ prefix g page b draws n count t₀ out t = b .n + b .n - t
+μ-loop out₀ labelled g page b draws n count t₀ out t = b .n + b .n - t
 
 abbrev start-from-loop : tie.At-loop Inv-loop μ-loop → tie.Start Inv-loop μ-loop
 start-from-loop c = c .before .before .before .before
@@ -33,13 +32,13 @@ start-from-slice-known2 c = start-from-loop (c .before .before .before .before .
 
 loop-holds : tie.Need-loop-holds Inv-loop μ-loop
 unfolding concatBelow
-loop-holds c = (omega arith, refl, λ m f M. none _)
+loop-holds c = (omega arith, refl, λ m f. none _)
 
 write-line-requires : tie.Need-write-line-requires Inv-loop μ-loop
 write-line-requires c κs =
     let s = (start-from-loop (c .before .before)) in
     let p = s .pre .0 in
-    ((p .0, p .1, p .2, omega arith, simp (length-take, length-drop) (omega (arith, p .3, c .before .before .loop .inv .1))), s .pre .1)
+    ((p .0, p .1, p .2, omega arith, simp (length-take, length-drop) (omega (arith, p .3, c .before .before .loop .inv .1)), p .4), s .pre .1)
 
 loop-again : tie.Need-loop-again Inv-loop μ-loop
 loop-again c =
@@ -47,7 +46,7 @@ loop-again c =
     let f = (start-from-slice-known2 c) .args in (
       omega arith,
       search needs,
-      λ m fed M. block-more (lineOf m (parametersOf (f .g .group)) (f .b .n) M (now (f .draws)) (f .b .from)) 16 (l .t) _ _ (l .out) _ (λ j h. length-line _ _ _ _ _ _ _) (mul-comm 16 (l .t)) (l .inv .2 m fed M) (c .before .before .write-line .ensures m fed M),
+      λ m fed. block-more (lineOf m (parametersOf (f .g .group)) (f .b .n) (f .b .number) (λ k. getD (f .b .list) k 0) (now (f .draws)) (f .b .from)) 16 (l .t) _ _ (l .out) _ (λ j h. length-line _ _ _ _ _ _ _ _) (mul-comm 16 (l .t)) (l .inv .2 m fed) (c .before .before .write-line .ensures m fed),
     )
 
 returns : tie.Need-returns Inv-loop μ-loop
@@ -55,7 +54,7 @@ returns c =
     let l = c .before .loop in
     let n = c .before .before .before .before .before .args .b .n in
     let e : l .t ≡ n + n = omega arith in
-    λ m fed M. l .inv .2 m fed M ∙ rw e
+    λ m fed. l .inv .2 m fed ∙ rw e
 
 pub write-lines-spec : {M : Type 1} → statement M
 write-lines-spec = tie.close (tie.spec Inv-loop μ-loop (λ c. omega (arith, c .before .before .before .pre .0 .2)) loop-holds

@@ -23,7 +23,7 @@ jobAt s = boardJob (s .args .head) (now (s .args .label)) (now (s .args .ranking
 
 -- the start, from where the column is known
 abbrev start : tie.After-wide → tie.Start
-start c = c .before .before .before .before .before .before .before .before .before .before .before
+start c = c .before .before .before .before .before .before .before .before .before .before .before .before
 
 -- the round before
 abbrev was : tie.Start → ℕ
@@ -71,13 +71,16 @@ module _ (c : tie.After-write-shift-arg) where
   struck-is =
       let l = left s in
       let n : s .args .head .n - s .args .plan .m + 1 ≡ s .args .head .n - was s = omega (arith, s .pre .2, s .pre .1 .early) in
-      place-is (s .args .plan .a) _ (s .args .head .n - was s) _ _ _ (c .before .before .before .before .before .before .row-of .ensures) (c .before .before .before .before .before .before .before .before .before .still-in .ensures) n (l .left (s .args .b) (s .pre .3))
+      place-is (s .args .plan .a) _ (s .args .head .n - was s) _ _ _ (c .before .before .before .before .before .before .row-of .ensures) (c .before .before .before .before .before .before .before .before .before .before .still-in .ensures) n (l .left (s .args .b) (s .pre .3))
 
-  after-is : c .before .before .before .before .before .before .before .before .still-in2 .result ≡ withZeros (remaining (listOf (s .args .plan .before) ++ (s .args .plan .a ∷ [])) (rankingOf (jobAt s) (s .args .b)))
-  after-is = c .before .before .before .before .before .before .before .before .still-in2 .ensures ∙ rw (left s .struck)
+  after-is : c .before .before .before .before .before .before .before .before .before .still-in2 .result ≡ withZeros (remaining (listOf (s .args .plan .before) ++ (s .args .plan .a ∷ [])) (rankingOf (jobAt s) (s .args .b)))
+  after-is = c .before .before .before .before .before .before .before .before .before .still-in2 .ensures ∙ rw (left s .struck)
 
   rows-is : s .args .head .n - s .args .plan .m ≡ s .args .head .n - suc (was s)
   rows-is = rw (← (next s))
+
+  round-is : c .before .before .before .before .before .before .before .before .low .result ≡ suc (was s) + 1
+  round-is = c .before .before .before .before .before .before .before .before .low .ensures ∙ ap (λ (m : ℕ). m + 1) (next s)
 
   column-is : c .before .before .before .before .before .wide .result - 1 ≡ s .args .plan .a - 1
   column-is = ap (λ (x : ℕ). x - 1) (c .before .before .before .before .before .wide .ensures)
@@ -94,7 +97,7 @@ write-shift-requires c κs =
     let job = jobAt s in (
       (
         p .0,
-        shifting job (headGroup (f .head)) (f .b) (was s) (listOf (f .plan .before)) (f .plan .a) _ refl (rows-is c) (c .before .before .before .before .before .before .before .low16 .ensures) (c .before .before .before .before .before .before .before .before .before .still-in .ensures) (after-is c) (struck-is c) (column-is c) (older (c .before .before .before .before)) (new-is c)
+        shifting job (headGroup (f .head)) (f .b) (was s) (listOf (f .plan .before)) (f .plan .a) _ refl (rows-is c) (round-is c) (c .before .before .before .before .before .before .before .low16 .ensures) (c .before .before .before .before .before .before .before .before .before .before .still-in .ensures) (after-is c) (struck-is c) (column-is c) (older (c .before .before .before .before)) (new-is c)
             (f .head .setup .group .p) (p .0 .p-pos) (p .1 .n-high) (rw (← (next s)) (p .1 .early)) (p .3) (l .low) (l .high) (l .place (f .b) (p .3)) (rw (← (next s)) (p .1 .drawn)),
       ),
       omega (arith, length-later (f .head .n) (f .plan .m) (λ e. omega (arith, p .2)), p .4),
@@ -107,7 +110,7 @@ returns c =
     let f = s .args in
     c .before .before .write-shift .ensures
     ∙ ap (λ (x : List ℕ). written x (now (f .out)))
-    (later-is (jobAt s) (headGroup (f .head)) (f .b) (was s) (listOf (f .plan .before)) (f .plan .a) _ refl (rows-is a) (a .before .before .before .before .before .before .before .low16 .ensures) (a .before .before .before .before .before .before .before .before .before .still-in .ensures) (after-is a) (struck-is a) (column-is a) (older (a .before .before .before .before)) (new-is a)
+    (later-is (jobAt s) (headGroup (f .head)) (f .b) (was s) (listOf (f .plan .before)) (f .plan .a) _ refl (rows-is a) (round-is a) (a .before .before .before .before .before .before .before .low16 .ensures) (a .before .before .before .before .before .before .before .before .before .before .still-in .ensures) (after-is a) (struck-is a) (column-is a) (older (a .before .before .before .before)) (new-is a)
     (f .plan .m) (next s))
 
 pub write-later-spec : {M : Type 1} → statement M
@@ -115,11 +118,13 @@ write-later-spec = tie.close (tie.spec (λ c. omega (arith, ranked (c .before .b
     (λ c κs. let s = c .before .before .before .before .before .before in (s .pre .1 .n-high, ranked s, s .pre .1 .before-listed))
     (λ c κs. let s = c .before .before .before .before .before .before .before in (s .pre .1 .n-high, ranked s, s .pre .1 .gone-listed))
     (λ c. omega (arith, c .before .before .before .before .before .before .before .before .pre .1 .early))
-    (λ c. let s = c .before .before .before .before .before .before .before .before in omega (arith, s .pre .1 .K-high, s .pre .3))
-    (λ c κs. let s = c .before .before .before .before .before .before .before .before in omega (arith, s .pre .1 .K-high, s .pre .3))
-    (λ c. omega (arith, c .before .before .before .before .before .before .before .before .before .pre .1 .early))
-    (λ c. omega (arith, c .before .before .before .before .before .before .before .before .before .pre .1 .n-high))
-    (λ c κs. let s = c .before .before .before .before .before .before .before .before .before in omega (arith, s .pre .1 .n-high, s .pre .2))
+    (λ c. omega (arith, c .before .before .before .before .before .before .before .before .pre .1 .n-high))
+    (λ c κs. let s = c .before .before .before .before .before .before .before .before in omega (arith, s .pre .1 .early, s .pre .1 .n-high))
+    (λ c. let s = c .before .before .before .before .before .before .before .before .before in omega (arith, s .pre .1 .K-high, s .pre .3))
+    (λ c κs. let s = c .before .before .before .before .before .before .before .before .before in omega (arith, s .pre .1 .K-high, s .pre .3))
+    (λ c. omega (arith, c .before .before .before .before .before .before .before .before .before .before .pre .1 .early))
+    (λ c. omega (arith, c .before .before .before .before .before .before .before .before .before .before .pre .1 .n-high))
+    (λ c κs. let s = c .before .before .before .before .before .before .before .before .before .before in omega (arith, s .pre .1 .n-high, s .pre .2))
     (λ c κs. search needs) (λ c. omega (arith, c .wide .ensures, left (start c) .low)) (λ c. omega (arith, start c .pre .2))
     (λ c κs. (start c .pre .1 .n-high, omega (arith, start c .pre .1 .early))) (λ c. omega (arith, older c, near-before (start (c .before))))
     (λ c. omega (arith, older (c .before), near-before (start (c .before .before))))
