@@ -30,14 +30,12 @@ pub struct Ballot {
     pub from: usize,
 }
 
-// A page with the pairs where the record at its start would have them.
-fn page_of(g: Group, n: usize, list: [u8; 8], draws: &[u32], from: usize) -> [u8; 516]
-    requires { ⌜ (0 < g .p) × (0 < n) × (n ≤ 8) × (from < 2 ^ 40) × (from + n * n ≤ length (now draws)) ⌝ }
-    ensures { λ r. ⌜ (length r ≡ 516) × Paged r 0 n n (matrixOf (parametersOf g) n (λ k. getD list k 0) (now (draws .entry)) from) ⌝ }
+// The pairs go where the record at a page's start would have them.
+fn put_matrix(page: &mut [u8], g: Group, n: usize, list: [u8; 8], draws: &[u32], from: usize)
+    requires { ⌜ (0 < g .p) × (0 < n) × (n ≤ 8) × (from < 2 ^ 40) × (from + n * n ≤ length (now draws)) × (length (now page) ≡ 516) ⌝ }
+    ensures { λ _. ⌜ (length (now (page .exit)) ≡ 516) × Paged (now (page .exit)) 0 n n (matrixOf (parametersOf g) n (λ k. getD list k 0) (now (draws .entry)) from) ⌝ }
 {
-    let mut page = [0u8; 516];
     pairs::write_pairs(&mut page[4..], g, n, n, list, draws, from);
-    page
 }
 
 // The entry proof of the c-th pair.
@@ -112,7 +110,8 @@ pub fn write_ballot(out: &mut [u8], label: &[u8], g: Setup, b: Ballot, draws: &[
     let group = g.group;
     let n = b.n;
     let list = b.list;
-    let page = page_of(group, n, list, draws, b.from);
+    let mut page = [0u8; 516];
+    put_matrix(&mut page, group, n, list, draws, b.from);
     let proofs = 4 + 8 * (n * n);
     pairs::put_front(out, layout::BA, b.number, &page[4..proofs]);
     let labelled = Hasher::new().update(label);

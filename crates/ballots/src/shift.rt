@@ -33,18 +33,16 @@ pub struct Shift {
     pub new: usize,
 }
 
-// A page with the matrix before where the record at its start would have it, and the new one where that at 512 would.
-fn pages_of(g: Group, s: Shift, draws: &[u32]) -> [u8; 1028]
-    requires { ⌜ Shifting (g .p) (g .q) s (now draws) ⌝ }
-    ensures { λ r. ⌜ (length r ≡ 1028) × Paged r 0 (s .rows + 1) (s .n) (oldMatrix (parametersOf g) s (now (draws .entry))) × Paged r 512 (s .rows) (s .n) (newMatrix (parametersOf g) s (now (draws .entry))) ⌝ }
+// The matrix before goes where the record at a page's start would have it, and the new one where that at 512 would.
+fn put_matrices(page: &mut [u8], g: Group, s: Shift, draws: &[u32])
+    requires { ⌜ Shifting (g .p) (g .q) s (now draws) × (length (now page) ≡ 1028) ⌝ }
+    ensures { λ _. ⌜ (length (now (page .exit)) ≡ 1028) × Paged (now (page .exit)) 0 (s .rows + 1) (s .n) (oldMatrix (parametersOf g) s (now (draws .entry))) × Paged (now (page .exit)) 512 (s .rows) (s .n) (newMatrix (parametersOf g) s (now (draws .entry))) ⌝ }
 {
     let n = s.n;
     let before = s.before;
     let after = s.after;
-    let mut page = [0u8; 1028];
     pairs::write_pairs(&mut page[4..], g, n, s.rows + 1, before, draws, s.old);
     pairs::write_pairs(&mut page[516..], g, n, s.rows, after, draws, s.new);
-    page
 }
 
 fn write_shift_proof(
@@ -92,7 +90,8 @@ pub fn write_shift(out: &mut [u8], label: &[u8], g: Setup, s: Shift, draws: &[u3
 {
     let group = g.group;
     let count = s.rows * s.n;
-    let page = pages_of(group, s, draws);
+    let mut page = [0u8; 1028];
+    put_matrices(&mut page, group, s, draws);
     let end = 516 + 8 * count;
     pairs::put_front(out, layout::SH, s.number, &page[516..end]);
     let labelled = Hasher::new().update(label);

@@ -2,7 +2,7 @@
 use Prim.Native.Nat.{ℕ, _+_, _*_, _-_, _≤_, _<_}
 use mathlib.Core.Path.{_≡_, refl, sym, subst, _∙_}
 use mathlib.Core.Bool.{cond}
-use mathlib.Core.List.{List, _++_, append-assoc, append-nil}
+use mathlib.Core.List.{List, _++_, append-assoc}
 use native.Mathlib.Omega.{arith}
 use lib.Dec.{eqb}
 use lib.ListN.{length, getD, length-append, length-take, length-drop}
@@ -10,7 +10,6 @@ use borrow.Rule.Slice.PartMut.{midOf, putMid}
 use Rattle.numbers.specs.Below.{concatBelow}
 use Rattle.group.specs.Elements.{Parameters}
 use Rattle.sha256.specs.declared.Hasher.{Hasher}
-use Rattle.sha256.specs.Feed.{Fed}
 use Rattle.rules.specs.Bytes.{bytes4, part}
 use Rattle.output.specs.Written.{written}
 use Rattle.output.proofs.Laws.{more, skip, blocks-more}
@@ -47,14 +46,6 @@ module _ (e : ℕ) (r : ℕ → ℕ) (o : List ℕ) where
       let m : length (branchBytes e i t r ++ t i) ≡ a = simp length-append (omega (arith, wide i (omega arith))) in
       more (branchBytes e i t r ++ t i) (bytes4 (r i)) o l x a m (skip (branchBytes e i t r) o l (4 + 12 * i) 8 n (omega arith) el) ex
       ∙ rw (blocks-more (λ i. t i ++ bytes4 (r i)) i, append-assoc, append-assoc)
-
--- what is fed grows with it
-pub fed-more : (t : ℕ → List ℕ) (i : ℕ) (m : List ℕ) (k : Hasher) → Fed k ((m ++ concatBelow i t) ++ t i) → Fed k (m ++ concatBelow (i + 1) t)
-fed-more t i m k f = rw (blocks-more t i, ← append-assoc) f
-
-pub fed-none : (t : ℕ → List ℕ) (m : List ℕ) (k : Hasher) → Fed k m → Fed k (m ++ concatBelow 0 t)
-unfolding concatBelow
-fed-none t m k f = rw append-nil f
 
 -- a branch as it is written at first, from its challenge and where its nonces or responses start
 pub drafted-branch : (g : Parameters) (claim : ℕ → ℕ → Statement) (plan : Plan) (draws : List ℕ) (l i S at e first : ℕ) (o o' : List ℕ) (h k : Hasher) → i ≡ S → at ≡ planDraws plan l →

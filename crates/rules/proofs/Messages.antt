@@ -28,10 +28,10 @@ half-told : (x y : ℕ) → x < 2 ^ 16 → y < 2 ^ 16 → bytes2 x ≡ bytes2 y 
 half-told x y l l' e =
     sym (half-stands (omega (arith, l)) (stands-whole (bytes2 x))) ∙ ap (λ (s : List ℕ). number2 s 0) e ∙ half-stands (omega (arith, l')) (stands-whole (bytes2 y))
 
-module _ (c d : Context) (mark : length (c .mark) ≡ 2) (mark' : length (d .mark) ≡ 2) where
-  context-long : length (contextBytes c) ≡ 7
-  context-long = simp length-append (omega (arith, mark))
+context-long : (c : Context) → length (c .mark) ≡ 2 → length (contextBytes c) ≡ 7
+context-long c mark = simp length-append (omega (arith, mark))
 
+module _ (c d : Context) (mark : length (c .mark) ≡ 2) (mark' : length (d .mark) ≡ 2) where
   -- numbers and places of 2 bytes each
   pub context-told : c .number < 2 ^ 16 → d .number < 2 ^ 16 → c .place < 2 ^ 16 → d .place < 2 ^ 16 → contextBytes c ≡ contextBytes d → c ≡ d
   context-told cn dn cp dp e =
@@ -83,6 +83,12 @@ module _ (branches statements : ℕ) (claim : ℕ → ℕ → Statement) (t : �
   statement-stands l i a b =
       stands-moved (omega arith) (stands-block statements 16 _ (λ _ _. refl) (stands-block branches (statements * 16) _ (λ l _. branch-long l) (stands-whole body) l a) i b)
 
+pub message-long : (label : List ℕ) (c : Context) (branches statements : ℕ) (claim : ℕ → ℕ → Statement) (t : ℕ → ℕ → Commitments) →
+    length label ≡ 32 → length (c .mark) ≡ 2 → length (message label c branches statements claim t) ≡ 39 + branches * (statements * 16)
+unfolding message body
+message-long label c branches statements claim t long mark =
+    simp length-append (omega (arith, long, context-long c mark, body-long branches statements claim t))
+
 -- each statement, from equal bodies of one size
 module _ (branches statements : ℕ) (claim claim' : ℕ → ℕ → Statement) (t t' : ℕ → ℕ → Commitments)
     (e : body branches statements claim t ≡ body branches statements claim' t') (l i : ℕ) (a : l < branches) (b : i < statements) where
@@ -111,6 +117,6 @@ pub parts-told : (label label' : List ℕ) (c d : Context) (b S b' S' : ℕ) (cl
 unfolding message body
 parts-told label label' c d b S b' S' claim claim' t t' long long' mark mark' e =
     let w = split 39 (label ++ contextBytes c) (label' ++ contextBytes d) _ _
-    (simp length-append (omega (arith, long, context-long c d mark mark'))) (simp length-append (omega (arith, long', context-long d c mark' mark))) e in
+    (simp length-append (omega (arith, long, context-long c mark))) (simp length-append (omega (arith, long', context-long d mark'))) e in
     let v = split 32 label label' _ _ long long' (w .0) in
     (v .0, v .1, w .1)

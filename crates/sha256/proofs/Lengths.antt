@@ -7,7 +7,7 @@ use lib.ListN.{length}
 use Rattle.compression.specs.Block.{H₀, sums, compress}
 use Rattle.sha256.specs.Message.{padded, blocks, bytes, sha256}
 
-eight-words : (m : List ℕ) (n : ℕ) → length (blocks m n) ≡ 8
+eight-words : (m : List ℕ) (n : ℕ) → length (blocks H₀ m n) ≡ 8
 unfolding blocks H₀ compress sums
 eight-words m zero = refl
 eight-words m (suc n) = refl

@@ -1,5 +1,5 @@
 -- The walk of a proof's branches and statements, in plain terms.
-use Prim.Native.Nat.{ℕ, _+_, _*_, _-_, _%_, _≤_, _<_}
+use Prim.Native.Nat.{ℕ, _+_, _*_, _%_, _≤_, _<_}
 use mathlib.Core.Path.{_≡_}
 use mathlib.Core.Bool.{Bool, true, false}
 use mathlib.Core.List.{List, _++_, append-assoc, append-nil}
@@ -45,11 +45,7 @@ pub branch-within : (at branches statements l len : ℕ) → at + branches * (4 
     branchAt at statements l + (4 + 12 * statements) ≤ len
 branch-within at branches statements l len h hl = omega (arith, mul-le-mul-right (4 + 12 * statements) hl)
 
-pub nothing-more : (m : List ℕ) (f : ℕ → List ℕ) → m ++ concatBelow 0 f ≡ m
-unfolding concatBelow
-nothing-more m f = append-nil m
-
-pub one-more : (m : List ℕ) (f : ℕ → List ℕ) (i : ℕ) → (m ++ concatBelow i f) ++ f i ≡ m ++ concatBelow (i + 1) f
+one-more : (m : List ℕ) (f : ℕ → List ℕ) (i : ℕ) → (m ++ concatBelow i f) ++ f i ≡ m ++ concatBelow (i + 1) f
 unfolding concatBelow
 one-more m f i = rw (add-one i, append-assoc)
 
@@ -70,12 +66,15 @@ module _ (s label : List ℕ) (c : Context) (p q base0 base1 : ℕ) (claim : ℕ
   unfolding proofHolds message
   sums-up sum whole h hs hc = rw (h, hs, hc)
 
--- what is fed after a statement, and after a branch
-pub fed-more : (h : Hasher) (m s : List ℕ) (claim : ℕ → ℕ → Statement) (at statements l i : ℕ) →
-    Fed h ((m ++ concatBelow i (piece s claim at statements l)) ++ piece s claim at statements l i) → Fed h (m ++ concatBelow (i + 1) (piece s claim at statements l))
-fed-more h m s claim at statements l i f = rw (← one-more m (piece s claim at statements l) i) f
+-- what is fed grows by one part more
+pub fed-below-none : (t : ℕ → List ℕ) (m : List ℕ) (h : Hasher) → Fed h m → Fed h (m ++ concatBelow 0 t)
+unfolding concatBelow
+fed-below-none t m h f = rw append-nil f
+
+pub fed-below-more : (t : ℕ → List ℕ) (i : ℕ) (m : List ℕ) (h : Hasher) → Fed h ((m ++ concatBelow i t) ++ t i) → Fed h (m ++ concatBelow (i + 1) t)
+fed-below-more t i m h f = rw (← one-more m t i) f
 
 pub fed-branch : (h : Hasher) (m s : List ℕ) (claim : ℕ → ℕ → Statement) (at statements l i : ℕ) → i ≡ statements →
     Fed h ((m ++ concatBelow l (pieces s claim at statements)) ++ concatBelow i (piece s claim at statements l)) →
     Fed h (m ++ concatBelow (l + 1) (pieces s claim at statements))
-fed-branch h m s claim at statements l i e f = rw (← one-more m (pieces s claim at statements) l) (rw e at f)
+fed-branch h m s claim at statements l i e f = fed-below-more (pieces s claim at statements) l m h (rw e at f)

@@ -1,2 +1,3 @@
 -- How a digest is spelled.
 pub mod Text
+pub mod Tables

@@ -1,6 +1,6 @@
 // SHA-256 of FIPS 180-4's examples, and of messages that end near a block's end, at once and in pieces.
 ghost use mathlib.Core.Path.{_≡_};
-ghost use Prim.Native.Nat.{ℕ, _*_, _%_, _≤_, _<_};
+ghost use Prim.Native.Nat.{ℕ, _+_, _*_, _%_, _≤_, _<_};
 ghost use lib.ListN.{length, getD, replicate};
 ghost use Rattle.io.specs.Digits.{glyph};
 ghost use Rattle.sha256.specs.Message.{sha256};
@@ -29,30 +29,37 @@ fn hexadecimal(bytes: [u8; 32]) -> [u8; 64]
 }
 
 // Byte i is i % 251.
-fn counting() -> [u8; 1000]
-    ensures { λ r. ⌜ (length r ≡ 1000) × ((i : ℕ) → i < 1000 → getD r i 0 ≡ i % 251) ⌝ }
+fn counting() -> [u8; 65537]
+    ensures { λ r. ⌜ (length r ≡ 65537) × ((i : ℕ) → i < 65537 → getD r i 0 ≡ i % 251) ⌝ }
 {
-    let mut bytes = [0u8; 1000];
-    for i in 0..1000usize {
+    let mut bytes = [0u8; 65537];
+    for i in 0..65537usize {
         bytes[i] = (i % 251) as u8;
     }
     bytes
 }
 
-// The digest of a message that is fed n bytes at a time.
-fn in_pieces(message: &[u8], n: usize) -> [u8; 32]
-    requires { ⌜ 0 < n ⌝ }
-    ensures { λ r. ⌜ r ≡ sha256 (now (message .entry)) ⌝ }
+// The cuts of pieces of n bytes each.
+fn steps(n: usize) -> [usize; 1000]
+    requires { ⌜ n ≤ 1000 ⌝ }
+    ensures { λ r. ⌜ (length r ≡ 1000) × ((i : ℕ) → i < 1000 → getD r i 0 ≡ (i + 1) * n) ⌝ }
 {
-    let mut h = Hasher::new();
-    let mut i = 0;
-    while n < message.len() - i {
-        let e = i + n;
-        let next = h.update(&message[i..e]);
-        h = next;
-        i = e;
+    let mut cuts = [0usize; 1000];
+    for i in 0..1000usize {
+        cuts[i] = (i + 1) * n;
     }
-    h.update(&message[i..]).finish()
+    cuts
+}
+
+// The cuts of pieces of 1, 3, 5 and so on bytes.
+fn squares() -> [usize; 256]
+    ensures { λ r. ⌜ (length r ≡ 256) × ((i : ℕ) → i < 256 → getD r i 0 ≡ (i + 1) * (i + 1)) ⌝ }
+{
+    let mut cuts = [0usize; 256];
+    for i in 0..256usize {
+        cuts[i] = (i + 1) * (i + 1);
+    }
+    cuts
 }
 
 // The digest of some thousands of one byte.
@@ -86,42 +93,97 @@ fn print_length(message: &[u8]) {
     io::write_all(STDOUT_FILENO, b" bytes");
 }
 
+// In pieces of n bytes each.
 fn print_in_pieces(message: &[u8], n: usize)
-    requires { ⌜ 0 < n ⌝ }
+    requires { ⌜ n ≤ 1000 ⌝ }
 {
+    let cuts = steps(n);
     print_length(message);
     io::write_all(STDOUT_FILENO, b" in pieces of ");
     io::print_decimal(STDOUT_FILENO, n as u64);
-    print_digest(in_pieces(message, n));
+    print_digest(sha256::digest_in_pieces(message, &cuts));
 }
 
-// The first n bytes of m at once, and in pieces of four lengths.
+fn print_cut(message: &[u8], how: &[u8], cuts: &[usize]) {
+    print_length(message);
+    io::write_all(STDOUT_FILENO, how);
+    print_digest(sha256::digest_in_pieces(message, cuts));
+}
+
+// The first n bytes of m at once, and in pieces of eight lengths.
 fn print_first(m: &[u8], n: usize)
     requires { ⌜ n ≤ length (now m) ⌝ }
 {
     let message = &m[0..n];
     print_length(message);
     print_digest(sha256::digest(message));
+    print_in_pieces(message, 0);
     print_in_pieces(message, 1);
     print_in_pieces(message, 7);
+    print_in_pieces(message, 63);
     print_in_pieces(message, 64);
+    print_in_pieces(message, 65);
     print_in_pieces(message, 77);
+    print_in_pieces(message, 1000);
+}
+
+// In two pieces, cut at each place.
+fn print_each_cut(message: &[u8]) {
+    for i in 0..message.len() + 1 {
+        print_length(message);
+        io::write_all(STDOUT_FILENO, b" cut at ");
+        io::print_decimal(STDOUT_FILENO, i as u64);
+        let cuts = [i];
+        print_digest(sha256::digest_in_pieces(message, &cuts));
+    }
+}
+
+// At once, then cut at each place.
+fn print_example(name: &[u8], message: &[u8]) {
+    print_named(name, sha256::digest(message));
+    print_each_cut(message);
+}
+
+// FIPS 180-4's examples.
+fn print_examples() {
+    print_example(b"empty", b"");
+    print_example(b"abc", b"abc");
+    print_example(
+        b"448 bits",
+        b"abcdbcdecdefdefgefghfghighijhijkijkljklmklmnlmnomnopnopq",
+    );
+    print_example(
+        b"896 bits",
+        b"abcdefghbcdefghicdefghijdefghijkefghijklfghijklmghijklmnhijklmnoijklmnopjklmnopqklmnopqrlmnopqrsmnopqrstnopqrstu",
+    );
+    print_named(b"one million a", thousands(1000, b'a'));
+}
+
+// Pieces of several lengths, cuts that do not rise or lie past the end, and the longest messages.
+fn print_cuts(m: &[u8])
+    requires { ⌜ 65537 ≤ length (now m) ⌝ }
+{
+    let message = &m[0..1000];
+    print_cut(
+        message,
+        b" in pieces of 0, 1, 63, 64, 65, 65, 64, 63, 1, 0 bytes and the rest",
+        &[0, 1, 64, 128, 193, 258, 322, 385, 386, 386],
+    );
+    print_cut(message, b" cut at 300 and back at 299", &[300, 299, 400]);
+    print_cut(
+        message,
+        b" cut at 1000 and past the end",
+        &[1000, 1001, 1000],
+    );
+    print_cut(message, b" cut past the end", &[1001, 500]);
+    print_cut(message, b" with no cut", &[]);
+    let odd = squares();
+    print_cut(&m[0..65536], b" in odd pieces", &odd);
+    print_cut(&m[0..65537], b" in odd pieces", &odd);
 }
 
 fn main() {
-    print_named(b"empty", sha256::digest(b""));
-    print_named(b"abc", sha256::digest(b"abc"));
-    print_named(
-        b"448 bits",
-        sha256::digest(b"abcdbcdecdefdefgefghfghighijhijkijkljklmklmnlmnomnopnopq"),
-    );
-    print_named(
-        b"896 bits",
-        sha256::digest(
-            b"abcdefghbcdefghicdefghijdefghijkefghijklfghijklmghijklmnhijklmnoijklmnopjklmnopqklmnopqrlmnopqrsmnopqrstnopqrstu",
-        ),
-    );
-    print_named(b"one million a", thousands(1000, b'a'));
+    print_examples();
     let m = counting();
     print_first(&m, 0);
     print_first(&m, 1);
@@ -134,4 +196,5 @@ fn main() {
     print_first(&m, 119);
     print_first(&m, 120);
     print_first(&m, 1000);
+    print_cuts(&m);
 }

@@ -6,4 +6,5 @@ pub mod Refusals
 pub mod EqualCounts
 pub mod Receipts
 pub mod Messages
+pub mod Lengths
 pub mod Worked

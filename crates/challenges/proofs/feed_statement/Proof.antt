@@ -3,7 +3,7 @@ use Rattle.challenges.proofs.feed_statement.Statement.{statement}
 use Rattle.challenges.proofs.feed_statement.Tie as tie
 
 returns : tie.Need-returns
-returns c m f = c .update .ensures m f
+returns c = c .update .ensures
 
 pub feed-statement-spec : {M : Type 1} → statement M
 feed-statement-spec =

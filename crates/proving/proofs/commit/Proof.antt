@@ -11,7 +11,7 @@ use Rattle.statements.specs.Claims.{claimOf}
 use Rattle.output.specs.Written.{written}
 use Rattle.output.proofs.Laws.{none}
 use Rattle.proving.specs.Plans.{branchSaid, draftCommitments, draftBranch}
-use Rattle.proving.proofs.Branches.{fed-more}
+use Rattle.statements.proofs.Branches.{fed-below-more}
 use Rattle.proving.proofs.Joining.{held-more, in-proof}
 use borrow.Author.Needs.{needs}
 use Rattle.proving.proofs.commit.Statement.{statement}
@@ -54,7 +54,7 @@ loop-again c =
       omega arith,
       search needs,
       held-more g cl (f .plan) (now (f .draws)) (l .l) _ (now (f .out)) (l .out) _ _ _ refl (l .inv .2) b,
-      λ m h. fed-more (λ l. branchSaid (f .plan .statements) (cl l) (draftCommitments g cl (f .plan) (now (f .draws)) l)) (l .l) m _ (b .fed _ (l .inv .3 m h)),
+      λ m h. fed-below-more (λ l. branchSaid (f .plan .statements) (cl l) (draftCommitments g cl (f .plan) (now (f .draws)) l)) (l .l) m _ (b .fed _ (l .inv .3 m h)),
     )
 
 returns : tie.Need-returns Inv-loop μ-loop

@@ -4,6 +4,7 @@ use native.Mathlib.Omega.{arith}
 use lib.ListN.{length, length-take, length-drop}
 use denote.Ref.{now}
 use Rattle.group.specs.Elements.{parametersOf}
+use Rattle.sha256.proofs.Feed.{fed-digest}
 use Rattle.statements.specs.Claims.{claimOf}
 use Rattle.proving.proofs.Draws.{true-fits}
 use Rattle.proving.proofs.Joining.{in-proof, challenge-is, joined}
@@ -39,7 +40,7 @@ returns c label context fed =
     let g = parametersOf (f .g .group) in
     let cl = claimOf (now (f .page)) g (f .maker .plan .claim) in
     let all = held w .before .before .commit .ensures in
-    let digest = w .before .before .before .before .before .finish .ensures _ (all .fed _ fed) in
+    let digest = fed-digest _ _ (all .fed _ fed) _ (w .before .before .before .before .before .finish .ensures) in
     let sum = w .before .before .before .before .before .before .false-complements .ensures .0 in
     let e = challenge-is label context g cl (f .maker) (now (f .draws)) _ _ _ _ digest
     (w .before .before .before .challenge .ensures) sum (w .before .reduce-exp .ensures) in

@@ -15,6 +15,7 @@ use Rattle.rules.specs.Group.{orders}
 use Rattle.rules.specs.Proofs.{commitmentsAt, challenge}
 use Rattle.rules.specs.Claims.{Matrix, entryClaim, lineClaim, shiftClaim}
 use Rattle.rules.specs.Count.{leaves}
+use Rattle.rules.specs.Records.{headerLength}
 use Rattle.rules.specs.Header.{Header, header}
 use Rattle.rules.specs.Check.{place, matrix, counts}
 use Rattle.rules.proofs.Sizes.{cells}
@@ -25,6 +26,10 @@ use Rattle.whole.specs.Messages.{Form, entry, row, column, shift, branch
 use Rattle.whole.proofs.SecondDemand.{early}
 use Rattle.whole.proofs.Sound.Accepted.{header-good}
 use Rattle.whole.proofs.Complete.Written.{cell}
+
+pub label-long : (s : List ℕ) → headerLength ≤ length s → length (header s .label) ≡ 32
+unfolding header
+label-long s h = simp (length-take, length-drop) (omega (arith, h))
 
 abbrev Small : ℕ → Type 0
 Small x = x < 2 ^ 32
@@ -95,10 +100,6 @@ module _ (hash : List ℕ → List ℕ) (s : List ℕ) (rounds : ℕ) (order : L
     first : 0 < rounds
     first = omega (arith, w .rounds-are)
 
-    label-long : length (h .label) ≡ 32
-    unfolding header
-    label-long = simp (length-take, length-drop) (omega (arith, w .head .fits))
-
     numbered : (m : ℕ) → m < rounds → number2 s (place s h m k + 2) ≡ k + 1
     numbered zero l = w .records 0 k l in-ballots .numbered
     numbered (suc m) l = w .records (suc m) k l in-ballots .numbered
@@ -114,7 +115,7 @@ module _ (hash : List ℕ → List ℕ) (s : List ℕ) (rounds : ℕ) (order : L
     fits (entry i j) o =
         let r = w .records 0 k first in-ballots in
         record {
-          label-long = label-long;
+          label-long = label-long s (w .head .fits);
           number-below = number-below 0 first;
           place-below = omega (arith, cell (h .n) (h .n) i j (o .0) (o .1), cells (h .n) (few .1));
           claims-below = λ l _ _ _. entry-below _ _ l (element-below _ (r .pairs .b-element i j (o .0) (o .1))) (element-below _ (r .pairs .y-element i j (o .0) (o .1)));
@@ -122,7 +123,7 @@ module _ (hash : List ℕ → List ℕ) (s : List ℕ) (rounds : ℕ) (order : L
         }
     fits (row i) o =
         record {
-          label-long = label-long;
+          label-long = label-long s (w .head .fits);
           number-below = number-below 0 first;
           place-below = omega (arith, cells (h .n) (few .1), few .1);
           claims-below = λ _ _ _ _. line-below _ _ _;
@@ -130,7 +131,7 @@ module _ (hash : List ℕ → List ℕ) (s : List ℕ) (rounds : ℕ) (order : L
         }
     fits (column j) o =
         record {
-          label-long = label-long;
+          label-long = label-long s (w .head .fits);
           number-below = number-below 0 first;
           place-below = omega (arith, cells (h .n) (few .1), few .1);
           claims-below = λ _ _ _ _. line-below _ _ _;
@@ -140,7 +141,7 @@ module _ (hash : List ℕ → List ℕ) (s : List ℕ) (rounds : ℕ) (order : L
         let r = w .records (suc m) k o in-ballots in
         let out = out-in m o in
         record {
-          label-long = label-long;
+          label-long = label-long s (w .head .fits);
           number-below = number-below (suc m) o;
           place-below = omega arith;
           claims-below = λ l i a b. shift-below _ _ _ l i (element-below _ (pairs-in m (omega arith) .y-element l _ (omega (arith, out .0)) (out .1)));

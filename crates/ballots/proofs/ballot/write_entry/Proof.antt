@@ -5,6 +5,7 @@ use native.Mathlib.Nat.{mod-lt}
 use native.Mathlib.Omega.{arith}
 use lib.ListN.{getD}
 use denote.Ref.{now}
+use Rattle.sha256.proofs.Feed.{fed-more}
 use Rattle.group.specs.Elements.{parametersOf}
 use Rattle.rules.specs.Ballot.{ballotContext}
 use Rattle.output.specs.Written.{written}
@@ -49,7 +50,7 @@ returns c m fed =
     let s = c .before .before .before .before .before .before .before .before .before .before .before .before in
     let f = s .args in
     let p = s .pre .0 in
-    c .before .before .make .ensures m (ballotContext (f .b .number) (f .c)) (c .before .before .before .before .before .feed-context .ensures m fed)
+    c .before .before .make .ensures m (ballotContext (f .b .number) (f .c)) (fed-more _ m fed _ _ (c .before .before .before .before .before .feed-context .ensures))
     ∙ ap (λ (x : List ℕ). written x (now (f .out)))
     (entry-is m (parametersOf (f .g .group)) (f .b .n) (f .b .number) (λ k. getD (f .b .list) k 0) (now (f .page)) (now (f .draws)) (f .b .from) (f .c) _ _ (omega (arith, p)) (omega (arith, p))
     (paged-same (parametersOf (f .g .group)) (f .b .n) (λ k. getD (f .b .list) k 0) (now (f .draws)) (f .b .from) (now (f .page)) 0 (f .b .n) (p .0 .p-pos) (omega (arith, s .good)) (s .pre .1 .1))

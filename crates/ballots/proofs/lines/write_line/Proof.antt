@@ -4,6 +4,7 @@ use mathlib.Core.List.{List}
 use native.Mathlib.Omega.{arith}
 use lib.ListN.{getD}
 use denote.Ref.{now}
+use Rattle.sha256.proofs.Feed.{fed-more}
 use Rattle.group.specs.Elements.{parametersOf}
 use Rattle.rules.specs.Ballot.{ballotContext}
 use Rattle.statements.specs.declared.claims.Claim.the-variants.{Line}
@@ -66,7 +67,7 @@ returns c m fed =
     let g = parametersOf (f .g .group) in
     let list : ℕ → ℕ = λ k. getD (f .b .list) k 0 in
     let context = ballotContext (f .b .number) (f .b .n * f .b .n + f .t) in
-    c .before .before .make .ensures m context (c .before .before .before .before .before .feed-context .ensures m fed)
+    c .before .before .make .ensures m context (fed-more _ m fed _ _ (c .before .before .before .before .before .feed-context .ensures))
     ∙ ap (λ (w : List ℕ). written w (now (f .out)))
     (line-is (Line (4 + 8 * line .result .start) (8 * line .result .stride) (f .b .n)) m context g _
     (lineSaid m g (f .b .n) (f .b .number) list (now (f .draws)) (f .b .from) (f .t)) _ (lineSum (now (f .draws)) (f .b .from) (f .b .n) (f .t)) (now (f .draws)) _

@@ -4,6 +4,7 @@ use mathlib.Core.List.{List}
 use native.Mathlib.Omega.{arith}
 use lib.ListN.{getD}
 use denote.Ref.{now}
+use Rattle.sha256.proofs.Feed.{fed-more}
 use Rattle.group.specs.Elements.{parametersOf}
 use Rattle.rules.specs.Shift.{shiftContext}
 use Rattle.output.specs.Written.{written}
@@ -36,7 +37,7 @@ returns c m fed =
     let g = parametersOf (f .g .group) in
     let p = s .pre .0 .1 in
     let small : f .g .group .p < 4294967296 = omega (arith, s .good) in
-    c .before .before .make .ensures m (shiftContext (f .s .round) (f .s .number)) (c .before .before .before .before .before .feed-context .ensures m fed)
+    c .before .before .make .ensures m (shiftContext (f .s .round) (f .s .number)) (fed-more _ m fed _ _ (c .before .before .before .before .before .feed-context .ensures))
     ∙ ap (λ (x : List ℕ). written x (now (f .out)))
     (shift-proof-is g (f .s) (now (f .draws)) p m (now (f .page)) _
     (paged-same g (f .s .n) (λ k. getD (f .s .before) k 0) (now (f .draws)) (f .s .old) (now (f .page)) 0 (f .s .rows + 1) (p .modulus) small (s .pre .1 .0))

@@ -15,7 +15,8 @@ use Rattle.jobs.specs.Prover.{commitmentBytes, branchBytes}
 use Rattle.proving.specs.Plans.{branchSaid, drafted}
 use Rattle.proving.proofs.Stating.{stated-as}
 use Rattle.proving.proofs.Draws.{draft-near, draft-at, draft-fits, draft-low}
-use Rattle.proving.proofs.Branches.{branch-none, branch-more, fed-none, fed-more, drafted-branch}
+use Rattle.statements.proofs.Branches.{fed-below-none, fed-below-more}
+use Rattle.proving.proofs.Branches.{branch-none, branch-more, drafted-branch}
 use borrow.Author.Needs.{needs}
 use Rattle.proving.proofs.branch.commit_branch.Statement.{statement}
 use Rattle.proving.proofs.branch.commit_branch.Tie as tie
@@ -75,7 +76,7 @@ loop-again c =
       omega arith,
       search needs,
       λ o h. branch-more _ t r (l .i) _ o (l .out) _ refl (l .inv .2 o h) p,
-      λ m h. fed-more (λ i. statementBytes (cl i) (t i)) (l .i) m _ (p .fed _ (l .inv .3 m h)),
+      λ m h. fed-below-more (λ i. statementBytes (cl i) (t i)) (l .i) m _ (p .fed _ (l .inv .3 m h)),
     )
 
 returns : tie.Need-returns Inv-loop μ-loop
@@ -95,7 +96,7 @@ commit-branch-spec = tie.close (tie.spec Inv-loop μ-loop
     (λ c κs. let s = start c in draft-at _ (s .args .branch .plan) (now (s .args .draws)) (s .pre .0 .1 .drawn) (s .args .branch .l) (s .pre .1 .0) _ (s .pre .1 .1))
     (λ c κs. let s = start (c .before) in draft-near _ (s .args .branch .plan) (now (s .args .draws)) (s .pre .0 .1 .drawn) (s .args .branch .l) (s .pre .1 .0) _ (s .pre .1 .1))
     (λ c κs. omega (arith, start (c .before .before .before) .pre .1 .2))
-    (λ c. (omega arith, refl, λ o h. h ∙ branch-none _ _ _ o, λ m h. fed-none _ m _ h))
+    (λ c. (omega arith, refl, λ o h. h ∙ branch-none _ _ _ o, λ m h. fed-below-none _ m _ h))
     (λ c κs. let s = start (told (c .before .before)) in (s .pre .0 .0, s .pre .0 .1 .ready (s .args .branch .l) (c .before .loop .i) (s .pre .1 .0) (omega arith)))
     (λ c. omega (arith, fits (c .before .before .before))) (λ c. omega (arith, fits (c .before .before .before))) (λ c. omega (arith, fits (c .before .before .before)))
     (λ c. omega (arith, fits (c .before .before .before))) (λ c. omega (arith, fits (c .before .before .before .before)))

@@ -1,4 +1,5 @@
 use mathlib.Core.Path.{refl}
+use Rattle.sha256.proofs.Feed.{fed-more}
 use Rattle.output.proofs.Laws.{more}
 use borrow.Author.Needs.{needs}
 use Rattle.proving.proofs.statement.put_statement.Statement.{statement}
@@ -19,7 +20,7 @@ returns c =
     let w = c .before .before .before in
     record {
       wrote = more _ _ _ _ _ _ refl (more _ _ _ _ _ _ refl (put1 (put2 w) .put-number4 .ensures) (put2 w .put-number42 .ensures)) (w .put-number43 .ensures);
-      fed = c .feed-statement .ensures;
+      fed = λ m f. fed-more _ m f (c .feed-statement .result) _ (c .feed-statement .ensures);
     }
 
 pub put-statement-spec : {M : Type 1} → statement M

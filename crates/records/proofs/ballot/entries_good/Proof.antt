@@ -6,6 +6,7 @@ use native.Mathlib.Omega.{arith}
 use lib.ListN.{length}
 use borrow.Author.Needs.{needs}
 use borrow.Author.Tests.{not-true, not-false}
+use Rattle.sha256.proofs.Feed.{fed-more}
 use Rattle.numbers.specs.Below.{allBelow}
 use Rattle.numbers.proofs.Tests.{all-none, all-more, all-fails, all-end}
 use Rattle.rules.specs.Ballot.{ballotContext}
@@ -32,7 +33,7 @@ unfolding claimOf
 checked c =
     let labelled = c .before .before .before .before .before .before .labelled in
     let number = c .before .before .before .before .before .number2 in
-    c .proof-good .ensures (ballotContext _ _) (rw (← number .ensures) (c .before .before .feed-context .ensures _ (labelled .ensures)))
+    c .proof-good .ensures (ballotContext _ _) (rw (← number .ensures) (fed-more _ _ (labelled .ensures) _ _ (c .before .before .feed-context .ensures)))
 
 returns : tie.Need-returns Inv-loop μ-loop
 returns c = sym (all-fails _ (c .before .before .before .before .before .loop .t) _ (omega arith) (sym (checked (c .before)) ∙ not-true _ (c .if1 .taken)))

@@ -7,6 +7,7 @@ use native.Mathlib.Omega.{arith}
 use lib.ListN.{length}
 use borrow.Author.Needs.{needs}
 use borrow.Author.Tests.{not-true, not-false}
+use Rattle.sha256.proofs.Feed.{fed-more}
 use Rattle.numbers.specs.Below.{allBelow}
 use Rattle.numbers.proofs.Tests.{all-none, all-more, all-fails, all-end}
 use Rattle.group.specs.Elements.{parametersOf}
@@ -59,7 +60,7 @@ checked c =
     let a = loop .before .before .before .before .args in
     let t = loop .loop .t in
     let context = ballotContext (number2 (now (a .board)) (a .at + 2)) (a .h .n * a .h .n + t) in
-    c .proof-good .ensures context (rw (← loop .before .number2 .ensures) (line .before .feed-context .ensures _ (loop .before .before .labelled .ensures)))
+    c .proof-good .ensures context (rw (← loop .before .number2 .ensures) (fed-more _ _ (loop .before .before .labelled .ensures) _ _ (line .before .feed-context .ensures)))
     ∙ ap (λ (f : ℕ → ℕ → Statement). proofAt (now (a .board)) (a .h) context (a .at + 4 + 40 * (a .h .n * a .h .n) + 16 * t) 1 1 f)
     (rw (line .line-of .ensures .0, line .line-of .ensures .1) (line-claimed (now (a .board)) (parametersOf (a .h .setup .group)) (a .h .n) (a .at) t))
 

@@ -2,6 +2,7 @@ use Prim.Native.Nat.{_+_, _*_, _-_, _≤_}
 use native.Mathlib.Nat.{mul-le-mul-right}
 use native.Mathlib.Omega.{arith}
 use borrow.Author.Needs.{needs}
+use Rattle.sha256.proofs.Feed.{fed-more}
 use Rattle.rules.specs.Shift.{shiftContext}
 use Rattle.statements.specs.Claims.{claimOf, Within}
 use Rattle.statements.proofs.Lines.{row-below}
@@ -48,7 +49,7 @@ unfolding claimOf
 returns c =
     let number = c .before .before .before .before in
     c .proof-good .ensures (shiftContext _ _)
-    (rw (← number .number2 .ensures, ← c .before .before .before .low .ensures) (c .before .before .feed-context .ensures _ (number .before .labelled .ensures)))
+    (rw (← number .number2 .ensures, ← c .before .before .before .low .ensures) (fed-more _ _ (number .before .labelled .ensures) _ _ (c .before .before .feed-context .ensures)))
 
 pub shift-proof-spec : {M : Type 1} → statement M
 shift-proof-spec =

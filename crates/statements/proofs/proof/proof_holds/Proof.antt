@@ -13,11 +13,12 @@ use Rattle.numbers.specs.Below.{allBelow, sumBelow, concatBelow}
 use Rattle.numbers.proofs.Tests.{all-none, all-more, all-end}
 use Rattle.sha256.specs.Feed.{Fed}
 use Rattle.sha256.specs.Message.{sha256}
+use Rattle.sha256.proofs.Feed.{fed-more, fed-digest}
 use Rattle.group.specs.Elements.{parametersOf}
 use Rattle.rules.specs.Bytes.{number8}
 use Rattle.rules.specs.Proofs.{Context, contextBytes, proofHolds, branchAt, statementAt}
 use Rattle.statements.specs.Claims.{claimOf}
-use Rattle.statements.proofs.Branches.{here, branchHere, piece, pieces, challenges, within, branch-within, nothing-more, sum-more, fails-there, sums-up, fed-more, fed-branch}
+use Rattle.statements.proofs.Branches.{here, branchHere, piece, pieces, challenges, within, branch-within, sum-more, fails-there, sums-up, fed-below-none, fed-below-more, fed-branch}
 use Rattle.statements.proofs.proof.proof_holds.Statement.{statement}
 use Rattle.statements.proofs.proof.proof_holds.Tie as tie
 
@@ -56,7 +57,7 @@ branches-holds : tie.Need-branches-holds Inv-loop μ-loop Inv-branches μ-branch
 unfolding sumBelow
 branches-holds c =
     let a = c .before .before .args in
-    (omega arith, refl, all-none _, sym (zero-mod (a .g .group .q)), λ m f. rw nothing-more f)
+    (omega arith, refl, all-none _, sym (zero-mod (a .g .group .q)), λ m f. fed-below-none _ m _ f)
 
 -- the branch is on the board, and so is the statement
 branch-fits : (c : tie.In-branches Inv-loop μ-loop Inv-branches μ-branches) →
@@ -118,7 +119,7 @@ said : (c : tie.After-feed-statement Inv-loop μ-loop Inv-branches μ-branches) 
     Fed (c .feed-statement .result) (m ++ piece (now (a .board)) (claimOf (now (a .board)) (parametersOf (a .g .group)) (a .claim)) (a .shape .at) (a .shape .statements) (o .l) (t .i))
 said c m f =
     let shown = c .before .before .before .shown-at .ensures in
-    rw (← c .before .before .before .before .claimed .ensures, ← shown .0, ← shown .1) (c .feed-statement .ensures m f)
+    rw (← c .before .before .before .before .claimed .ensures, ← shown .0, ← shown .1) (fed-more _ m f (c .feed-statement .result) _ (c .feed-statement .ensures))
 
 loop-again : tie.Need-loop-again Inv-loop μ-loop Inv-branches μ-branches
 loop-again c =
@@ -128,7 +129,7 @@ loop-again c =
       omega (arith, c .before .before .before .before .before .loop-test .taken),
       t .inv .1,
       all-more _ _ (t .inv .2) (sym (this (c .before .before)) ∙ not-false _ (c .before .if1 .left)),
-      λ m f. fed-more (c .feed-statement .result) m (now (a .board)) (claimOf (now (a .board)) (parametersOf (a .g .group)) (a .claim)) (a .shape .at) (a .shape .statements) (o .l) (t .i) (said c _ (t .inv .3 m f)),
+      λ m f. fed-below-more (piece (now (a .board)) (claimOf (now (a .board)) (parametersOf (a .g .group)) (a .claim)) (a .shape .at) (a .shape .statements) (o .l)) (t .i) m (c .feed-statement .result) (said c _ (t .inv .3 m f)),
     )
 
 branches-again : tie.Need-branches-again Inv-loop μ-loop Inv-branches μ-branches
@@ -211,12 +212,12 @@ returns-2 c label k f =
     (claimOf (now (a .board)) (parametersOf (a .g .group)) (a .claim))
     (a .shape .at) (a .shape .branches) (a .shape .statements) _ _ (done .all) (done .sum)
     (c .before .before .challenge .ensures ∙ ap (λ (d : List ℕ). number8 d 0 % a .g .group .q)
-    (c .before .before .before .before .finish .ensures _ (done .fed (label ++ contextBytes k) f)))
+    (fed-digest _ _ (done .fed (label ++ contextBytes k) f) _ (c .before .before .before .before .finish .ensures)))
 
 pub proof-holds-spec : {M : Type 1} → statement M
 proof-holds-spec = tie.close (tie.spec Inv-loop μ-loop Inv-branches μ-branches branches-holds (λ c. omega (arith, branch-fits c))
     (λ c. omega (arith, branch-fits c)) (λ c. omega (arith, branch-fits c)) (λ c. omega (arith, branch-fits c)) (λ c κs. omega (arith, branch-fits c))
-    (λ c κs. search needs) (λ c. let o = c .before .before .before .branches in (omega arith, o .inv .1, all-none _, λ m f. rw nothing-more f))
+    (λ c κs. search needs) (λ c. let o = c .before .before .before .branches in (omega arith, o .inv .1, all-none _, λ m f. fed-below-none _ m _ f))
     claimed-requires (λ c. omega (arith, fits (c .before))) (λ c. omega (arith, fits (c .before))) (λ c. omega (arith, fits (c .before)))
     (λ c κs. omega (arith, fits (c .before))) (λ c κs. (start-from-loop (c .before .before .before)) .pre .0 .p-pos) (λ c κs. search needs)
     (λ c. omega (arith, (start-from-feed c) .good, c .before .before .before .before .before .loop-test .taken)) (λ c. omega arith) loop-again
