@@ -85,6 +85,6 @@ pieces =
       few-wait = few-wait;
       no-trace = no-trace;
       of-calls = λ ps h c digest e. e ∙ ap digestOf (called ps h c (length ps) (omega arith) ∙ ap (feedAll empty) (take-length ps)) ∙ whole ps;
-      between-calls = λ ps h c i k. rw (called ps h c i k) (few-wait (take i ps));
+      between-calls = λ ps h c i k. (called ps h c i k ∙ no-trace (take i ps), rw (called ps h c i k) (few-wait (take i ps)));
       all-fed = λ m cuts. all-fed m 0 cuts;
     }

@@ -3,7 +3,7 @@
 use Prim.Native.Nat.{ℕ, _+_, _≤_, _<_}
 use mathlib.Core.Path.{_≡_}
 use mathlib.Core.List.{List, [], flatten}
-use lib.ListN.{length, getD}
+use lib.ListN.{length, getD, take}
 use Rattle.sha256.specs.Message.{sha256}
 use Rattle.sha256.specs.Stream.{empty, feed, feedAll, digestOf, piecesFrom}
 use Rattle.sha256.specs.Feed.{streamOf}
@@ -22,8 +22,10 @@ pub record Pieces : Type 0 where
   pub few-wait : (ps : List (List ℕ)) → length (feedAll empty ps .waiting) < 64
   -- nothing of the cuts remains
   pub no-trace : (ps : List (List ℕ)) → feedAll empty ps ≡ feed empty (flatten ps)
-  -- the same of hashers: what `finish` returns behind the last piece, and what waits between the calls
+  -- the same of hashers: what `finish` returns behind the last piece
   pub of-calls : (ps : List (List ℕ)) (h : ℕ → Hasher) → Calls ps h → (digest : List ℕ) → digest ≡ digestOf (streamOf (h (length ps))) → digest ≡ sha256 (flatten ps)
-  pub between-calls : (ps : List (List ℕ)) (h : ℕ → Hasher) → Calls ps h → (i : ℕ) → i ≤ length ps → length (streamOf (h i) .waiting) < 64
+  -- and what is held between the calls: every whole block of the bytes so far is hashed, and fewer than 64 bytes wait behind them
+  pub between-calls : (ps : List (List ℕ)) (h : ℕ → Hasher) → Calls ps h → (i : ℕ) → i ≤ length ps →
+      (streamOf (h i) ≡ feed empty (flatten (take i ps))) × (length (streamOf (h i) .waiting) < 64)
   -- whatever the cuts are, all of the message is fed
   pub all-fed : (m cuts : List ℕ) → flatten (piecesFrom m 0 cuts) ≡ m

@@ -4,5 +4,4 @@ pub mod Lines
 pub mod PlainClaims
 pub mod Places
 pub mod ShiftClaims
-pub mod Tables
 pub mod Branches

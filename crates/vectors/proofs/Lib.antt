@@ -1,3 +1,2 @@
 -- How a digest is spelled.
 pub mod Text
-pub mod Tables

@@ -4,7 +4,7 @@ use Prim.Native.Nat.{ℕ, _+_, _*_, _-_, _≤_, _<_}
 use native.Mathlib.Nat.{mul-le-mul}
 use native.Mathlib.Omega.{arith}
 use lib.ListN.{length, getD, length-set, length-replicate}
-use Rattle.vectors.proofs.Tables.{filled-more}
+use Rattle.numbers.proofs.Tables.{filled-more}
 use Rattle.vectors.proofs.squares.Statement.{statement}
 use Rattle.vectors.proofs.squares.Tie as tie
 
@@ -17,7 +17,7 @@ abbrev μ-loop : tie.MeasureT-loop
 loop-again : tie.Need-loop-again Inv-loop μ-loop
 loop-again c =
     let l = c .before .loop in
-    (omega arith, simp length-set (l .inv .1), filled-more (λ k. (k + 1) * (k + 1)) (l .cuts) (l .i) _ (omega arith) (l .inv .2) refl)
+    (omega arith, simp length-set (l .inv .1), filled-more (λ k. (k + 1) * (k + 1)) (l .cuts) (l .i) _ (omega arith) refl (l .inv .2))
 
 pub squares-spec : {M : Type 1} → statement M
 squares-spec = tie.close (tie.spec Inv-loop μ-loop (λ c. (search needs, length-replicate {A = ℕ} 256 0, λ k h. omega arith)) (λ c. search needs) (λ c. search needs)

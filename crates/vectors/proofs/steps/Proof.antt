@@ -4,7 +4,7 @@ use Prim.Native.Nat.{ℕ, _+_, _*_, _-_, _≤_, _<_}
 use native.Mathlib.Nat.{mul-le-mul}
 use native.Mathlib.Omega.{arith}
 use lib.ListN.{length, getD, length-set, length-replicate}
-use Rattle.vectors.proofs.Tables.{filled-more}
+use Rattle.numbers.proofs.Tables.{filled-more}
 use Rattle.vectors.proofs.steps.Statement.{statement}
 use Rattle.vectors.proofs.steps.Tie as tie
 
@@ -17,7 +17,7 @@ abbrev μ-loop : tie.MeasureT-loop
 loop-again : tie.Need-loop-again Inv-loop μ-loop
 loop-again c =
     let l = c .before .loop in
-    (omega arith, simp length-set (l .inv .1), filled-more (λ k. (k + 1) * c .before .before .args .n) (l .cuts) (l .i) _ (omega arith) (l .inv .2) refl)
+    (omega arith, simp length-set (l .inv .1), filled-more (λ k. (k + 1) * c .before .before .args .n) (l .cuts) (l .i) _ (omega arith) refl (l .inv .2))
 
 pub steps-spec : {M : Type 1} → statement M
 steps-spec = tie.close (tie.spec Inv-loop μ-loop (λ c. (search needs, length-replicate {A = ℕ} 1000 0, λ k h. omega arith)) (λ c. search needs)

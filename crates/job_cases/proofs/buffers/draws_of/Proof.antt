@@ -5,7 +5,7 @@ use native.Mathlib.Omega.{arith}
 use lib.ListN.{length, getD, length-set}
 use borrow.Author.Needs.{needs}
 use Rattle.rules.specs.Bytes.{number4}
-use Rattle.job_cases.proofs.Filled.{filled}
+use Rattle.numbers.proofs.Tables.{filled-more}
 use Rattle.job_cases.proofs.buffers.draws_of.Statement.{statement}
 use Rattle.job_cases.proofs.buffers.draws_of.Tie as tie
 
@@ -22,7 +22,7 @@ loop-again : tie.Need-loop-again Inv-loop μ-loop
 loop-again c =
     let l = c .before .before .loop in
     let s = now (c .before .before .before .before .before .args .bytes) in
-    (omega arith, simp length-set (l .inv .1), filled (λ k. number4 s (4 * k)) (l .draws) (l .i) (c .number4 .result) (omega arith) (c .number4 .ensures) (l .inv .2))
+    (omega arith, simp length-set (l .inv .1), filled-more (λ k. number4 s (4 * k)) (l .draws) (l .i) (c .number4 .result) (omega arith) (c .number4 .ensures) (l .inv .2))
 
 returns : tie.Need-returns Inv-loop μ-loop
 returns c = let l = c .before .loop in (l .inv .1, λ i h. l .inv .2 i (omega arith))

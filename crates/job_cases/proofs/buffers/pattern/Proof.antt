@@ -3,7 +3,7 @@ use mathlib.Core.Path.{_≡_}
 use native.Mathlib.Omega.{arith}
 use lib.ListN.{length, getD, length-set}
 use borrow.Author.Needs.{needs}
-use Rattle.job_cases.proofs.Filled.{filled}
+use Rattle.numbers.proofs.Tables.{filled-more}
 use Rattle.job_cases.proofs.buffers.pattern.Statement.{statement}
 use Rattle.job_cases.proofs.buffers.pattern.Tie as tie
 
@@ -19,7 +19,7 @@ loop-holds c = (search needs, search needs, λ k h. omega arith)
 loop-again : tie.Need-loop-again Inv-loop μ-loop
 loop-again c =
     let l = c .before .before .loop in
-    (omega arith, simp length-set (l .inv .1), filled (λ k. k % 251) (l .out) (l .i) _ (omega arith) (c .mark .ensures) (l .inv .2))
+    (omega arith, simp length-set (l .inv .1), filled-more (λ k. k % 251) (l .out) (l .i) _ (omega arith) (c .mark .ensures) (l .inv .2))
 
 returns : tie.Need-returns Inv-loop μ-loop
 returns c = let l = c .before .loop in (l .inv .1, λ i h. l .inv .2 i (omega arith))

@@ -8,7 +8,7 @@ use Rattle.group.specs.Arithmetic.{powMod}
 use Rattle.rules.specs.Bytes.{number4}
 use lib.Seq.{getD-set-other}
 use Rattle.statements.specs.Claims.{InverseTable}
-use Rattle.statements.proofs.Tables.{filled-more, zero-everywhere}
+use Rattle.numbers.proofs.Tables.{filled-more, zero-everywhere}
 use Rattle.statements.proofs.claims.inverse_table.Statement.{statement}
 use Rattle.statements.proofs.claims.inverse_table.Tie as tie
 

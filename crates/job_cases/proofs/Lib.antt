@@ -1,2 +1,0 @@
--- What a buffer is filled with.
-pub mod Filled
