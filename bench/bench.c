@@ -4,8 +4,10 @@
  *   bench [-r REPEATS] [-s SECONDS] [-f BOARD] BOARD...
  *
  * Each board, NAME.board, is checked by turns, at least REPEATS times and for at least SECONDS in
- * all, in another order each time. NAME.answer has what every checker must answer. With -f receipts
- * are found on that board (find.c). Times are processor time. Ends with 1 if an answer is another.
+ * all, in another order each time. NAME.answer has what every checker must answer. Where there are
+ * boards of 100 and of 1,000 ballots with half of them audited, the times of these are compared. With
+ * -f receipts are found on that board (find.c). Times are processor time. Ends with 1 if an answer is
+ * another.
  *
  * CHECKERS names the copies of plain.c, one for each compiler: X(gcc) stands for plain_check_gcc and
  * plain_digests_gcc.
@@ -41,7 +43,7 @@ enum { COUNT = sizeof CHECKER / sizeof *CHECKER, LIBRARY = COUNT - 1 };
 struct board {
     const char *path;
     uint8_t *bytes;
-    size_t length, n, k;
+    size_t length, n, k, counted;
     size_t due[1 + PLAIN_ANSWER];
     double least[COUNT], median[COUNT];
 };
@@ -64,6 +66,19 @@ static void read_answer(struct board *board)
     free(path);
 }
 
+/* How many ballots are counted. */
+static size_t counted_of(const struct board *board)
+{
+    size_t n = board->n, at = 54, counted = 0;
+
+    for (size_t i = 0; i < board->k && at + 4 < board->length; i++) {
+        bool audited = board->bytes[at + 4] == 1;
+        counted += !audited;
+        at += 5 + 40 * n * n + 32 * n + (audited ? 4 * n * n + n : 0);
+    }
+    return counted;
+}
+
 static void read_board(struct board *board, const char *path)
 {
     size_t length = strlen(path);
@@ -80,6 +95,7 @@ static void read_board(struct board *board, const char *path)
     }
     board->n = board->bytes[2];
     board->k = (size_t)board->bytes[3] << 8 | board->bytes[4];
+    board->counted = counted_of(board);
     read_answer(board);
 }
 
@@ -122,7 +138,7 @@ static const char *name_of(const char *path)
 
 static void print_heading(void)
 {
-    printf("%-16s %2s %5s %6s %9s", "board", "n", "K", "rounds", "bytes");
+    printf("%-19s %2s %5s %7s %6s %9s", "board", "n", "K", "counted", "rounds", "bytes");
     for (size_t c = 0; c < COUNT; c++) {
         printf(" %8s ms", CHECKER[c].name);
     }
@@ -135,8 +151,8 @@ static void print_heading(void)
 /* The least times, the library's ratio to each plain C and to the faster, and that of medians. */
 static void print_line(const struct board *board)
 {
-    printf("%-16s %2zu %5zu %6zu %9zu", name_of(board->path), board->n, board->k, board->due[1],
-           board->length);
+    printf("%-19s %2zu %5zu %7zu %6zu %9zu", name_of(board->path), board->n, board->k, board->counted,
+           board->due[1], board->length);
     for (size_t c = 0; c < COUNT; c++) {
         printf(" %11.3f", board->least[c]);
     }
@@ -148,16 +164,19 @@ static void print_line(const struct board *board)
     fflush(stdout);
 }
 
-/* Milliseconds a ballot, of boards with as many processes and rounds as the first. */
+/* Milliseconds a ballot, of boards with as many processes and rounds as the first and no audited
+ * ballot. */
 static void print_growth(const struct board *boards, size_t count)
 {
-    printf("\ngrowth with K, n = %zu, %zu rounds\n%5s", boards[0].n, boards[0].due[1], "K");
+    printf("\ngrowth with K, n = %zu, %zu rounds, all ballots counted\n%5s", boards[0].n,
+           boards[0].due[1], "K");
     for (size_t c = 0; c < COUNT; c++) {
         printf(" %8s ms a ballot", CHECKER[c].name);
     }
     printf("\n");
     for (size_t i = 0; i < count; i++) {
-        if (boards[i].n != boards[0].n || boards[i].due[1] != boards[0].due[1]) {
+        if (boards[i].n != boards[0].n || boards[i].due[1] != boards[0].due[1] ||
+            boards[i].counted != boards[i].k) {
             continue;
         }
         printf("%5zu", boards[i].k);
@@ -165,6 +184,33 @@ static void print_growth(const struct board *boards, size_t count)
             printf(" %20.4f", boards[i].least[c] / (double)boards[i].k);
         }
         printf("\n");
+    }
+}
+
+/* The board of so many ballots, half of them audited, or NULL. */
+static const struct board *half_audited(const struct board *boards, size_t count, size_t k)
+{
+    for (size_t i = 0; i < count; i++) {
+        if (boards[i].k == k && 2 * boards[i].counted == k) {
+            return &boards[i];
+        }
+    }
+    return NULL;
+}
+
+/* Time with ten times as many ballots, half of them audited. */
+static void print_half(const struct board *boards, size_t count)
+{
+    const struct board *few = half_audited(boards, count, 100);
+    const struct board *many = half_audited(boards, count, 1000);
+
+    if (few == NULL || many == NULL) {
+        return;
+    }
+    printf("\nhalf of the ballots audited: time at K = 1000 over time at K = 100 (bar: below 10.5)\n");
+    for (size_t c = 0; c < COUNT; c++) {
+        printf("%8s %6.3f, of medians %6.3f\n", CHECKER[c].name, many->least[c] / few->least[c],
+               many->median[c] / few->median[c]);
     }
 }
 
@@ -196,6 +242,7 @@ static void measure_checks(char **paths, size_t count, size_t repeats, double se
         free(board->bytes);
     }
     print_growth(boards, count);
+    print_half(boards, count);
     print_highest(boards, count);
     free(boards);
 }

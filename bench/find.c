@@ -44,7 +44,7 @@ struct wanted {
 struct walk {
     const char *path;
     uint8_t *board;
-    size_t length, n, k, size; /* size: bytes of a ballot */
+    size_t length, n, k, size; /* size: bytes of a ballot, all of them counted */
     uint8_t *held;             /* the digests of all ballots */
     uint8_t digests[DIGESTS * DIGEST];
     uint16_t due[DIGESTS];
@@ -123,7 +123,7 @@ static void read_walk(struct walk *walk, const char *path)
     if (walk->length >= HEADER) {
         walk->n = walk->board[2];
         walk->k = (size_t)walk->board[3] << 8 | walk->board[4];
-        walk->size = 4 + 40 * walk->n * walk->n + 32 * walk->n;
+        walk->size = 5 + 40 * walk->n * walk->n + 32 * walk->n;
     }
     if (walk->k == 0 || walk->length < HEADER + walk->k * walk->size) {
         fprintf(stderr, "%s: too short\n", path);

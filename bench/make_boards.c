@@ -21,20 +21,24 @@ static const char LABEL[] = "a benchmark of the board checker";
 
 struct size {
     const char *name;
-    size_t n, k; /* k is even */
+    size_t n, k;
+    size_t every; /* of every so many ballots the first is counted, the others are audited */
 };
 
+/* k / every is even */
 static const struct size SIZES[] = {
-    {"n8-k10", 8, 10},   {"n8-k30", 8, 30},     {"n8-k100", 8, 100},
-    {"n8-k300", 8, 300}, {"n8-k1000", 8, 1000}, {"n2-k1000", 2, 1000},
+    {"n8-k10", 8, 10, 1},         {"n8-k30", 8, 30, 1},           {"n8-k100", 8, 100, 1},
+    {"n8-k300", 8, 300, 1},       {"n8-k1000", 8, 1000, 1},       {"n2-k1000", 2, 1000, 1},
+    {"n8-k100-half", 8, 100, 2},  {"n8-k1000-half", 8, 1000, 2},
 };
 
 /*
- * Ballot k, from 0, ranks process k mod n + 1 first, then 1 (k even) or 2 (k odd), then the others
- * by number. Nobody ever has more than half: 1 gets only even ballots, 2 only odd ones. Process n
- * goes out first, then n - 1, down to 3; then 1 and 2 have half each. That takes n - 1 rounds, the
- * most there can be. Of n = 8 process 2 wins: the ballots of 3 are even, so 2 had more in the round
- * before. Of n = 2 process 1 wins.
+ * Counted ballot k, from 0 among the counted ones, ranks process k mod n + 1 first, then 1 (k even) or
+ * 2 (k odd), then the others by number; audited ballots rank as the counted one before them. Nobody
+ * ever has more than half: 1 gets only even ballots, 2 only odd ones. Process n goes out first, then
+ * n - 1, down to 3; then 1 and 2 have half each. That takes n - 1 rounds, the most there can be. Of
+ * n = 8 process 2 wins: the ballots of 3 are even, so 2 had more in the round before. Of n = 2 process
+ * 1 wins.
  */
 static void rank(uint8_t *ranking, size_t n, size_t k)
 {
@@ -63,23 +67,25 @@ static void expected(size_t n, size_t *answer)
 }
 
 /* A board of n - 1 rounds: its draws and its length. */
-static size_t draws_needed(size_t n, size_t k)
+static size_t draws_needed(const struct size *size)
 {
-    size_t draws = 4 * n * n + 2 * n;
+    size_t n = size->n, counted = size->k / size->every;
+    size_t draws = size->k * (4 * n * n + 2 * n);
 
     for (size_t rows = n - 1; rows >= 2; rows--) {
-        draws += rows * n + (rows + 1) * (2 + rows * n) + rows;
+        draws += counted * (rows * n + (rows + 1) * (2 + rows * n) + rows);
     }
-    return k * draws;
+    return draws;
 }
 
-static size_t board_length(size_t n, size_t k)
+static size_t board_length(const struct size *size)
 {
+    size_t n = size->n, k = size->k, counted = k / size->every;
     size_t sheet = 4 + 6 * n;
-    size_t length = 54 + k * (4 + 40 * n * n + 32 * n) + sheet;
+    size_t length = 54 + k * (5 + 40 * n * n + 32 * n) + (k - counted) * (4 * n * n + n) + sheet;
 
     for (size_t rows = n - 1; rows >= 2; rows--) {
-        length += k * (4 + 8 * rows * n + (rows + 1) * (28 + 12 * rows * n)) + sheet;
+        length += counted * (4 + 8 * rows * n + (rows + 1) * (28 + 12 * rows * n)) + sheet;
     }
     return length;
 }
@@ -101,22 +107,24 @@ static void fill_draws(uint32_t *draws, size_t count)
 static void write_board(const struct size *size, uint8_t *out, size_t length, size_t *answer)
 {
     size_t n = size->n, k = size->k, due[PLAIN_ANSWER];
-    size_t needed = draws_needed(n, k);
-    uint8_t *rankings = room_for(k, n);
+    size_t needed = draws_needed(size);
+    uint8_t *rankings = room_for(k, n), *kinds = room_for(k, 1);
     uint32_t *draws = room_for(needed, sizeof *draws);
 
     for (size_t i = 0; i < k; i++) {
-        rank(rankings + i * n, n, i);
+        rank(rankings + i * n, n, i / size->every);
+        kinds[i] = i % size->every == 0 ? 0 : 1;
     }
     fill_draws(draws, needed);
     expected(n, due);
     size_t refusal = gooseoften_write(n, k, P, Q, G0, COUNTER, (const uint8_t *)LABEL, 32, rankings,
-                                      k * n, draws, needed, out, length, answer);
+                                      k * n, kinds, k, draws, needed, out, length, answer);
     if (refusal != 0 || answer[PLAIN_ANSWER] != length || memcmp(answer, due, sizeof due) != 0) {
         fprintf(stderr, "%s: the writer answers %zu %zu\n", size->name, refusal, answer[0]);
         exit(1);
     }
     free(draws);
+    free(kinds);
     free(rankings);
 }
 
@@ -135,7 +143,7 @@ static FILE *create(const char *folder, const char *name, const char *kind)
 
 static void make(const char *folder, const struct size *size)
 {
-    size_t length = board_length(size->n, size->k);
+    size_t length = board_length(size);
     uint8_t *board = room_for(length, 1);
     size_t answer[PLAIN_ANSWER + 1];
 

@@ -21,23 +21,27 @@ extern "C" {
 /* The functions return 0, or a refusal: the number of the first rule that is broken, and 256 times
  * the record (or the ranking) that goes with it. These are the numbers. */
 enum gooseoften_refusal {
-    GOOSEOFTEN_LENGTH = 1,     /* bytes left are fewer than the record's length */
-    GOOSEOFTEN_MARK = 2,       /* the mark differs from the one due */
-    GOOSEOFTEN_SIZES = 3,      /* n or K is out of range */
-    GOOSEOFTEN_ORDERS = 4,     /* a rule on p and q is broken */
-    GOOSEOFTEN_GENERATORS = 5, /* a rule on g0 or g1 is broken; of a job, or the label's length */
-    GOOSEOFTEN_NUMBER = 6,     /* the number or the round is not the one due */
-    GOOSEOFTEN_FIELD = 7,      /* a field is no group element, or not below q */
-    GOOSEOFTEN_PROOF = 8,      /* a proof fails */
-    GOOSEOFTEN_COUNT = 9,      /* a count is above K */
-    GOOSEOFTEN_TALLY = 10,     /* a tally equation fails */
-    GOOSEOFTEN_OUT = 11,       /* out is not the one due */
-    GOOSEOFTEN_REMAIN = 12,    /* bytes remain after the closing sheet */
-    GOOSEOFTEN_RANKINGS = 13,  /* the rankings' length is wrong, or a ranking lacks a process */
-    GOOSEOFTEN_DRAWS = 14,     /* draws are too few, or one is outside 1 to q - 1 */
-    GOOSEOFTEN_OUTPUT = 15,    /* out or found is shorter than what is to be written */
-    GOOSEOFTEN_DIGESTS = 16    /* the digests are more than 500, out of order, or no multiple of 32
-                                  bytes */
+    GOOSEOFTEN_LENGTH = 1,       /* bytes left are fewer than the record's length */
+    GOOSEOFTEN_MARK = 2,         /* the mark differs from the one due */
+    GOOSEOFTEN_SIZES = 3,        /* n or K is out of range */
+    GOOSEOFTEN_ORDERS = 4,       /* a rule on p and q is broken */
+    GOOSEOFTEN_GENERATORS = 5,   /* a rule on g0 or g1 is broken; of a job, or the label's length */
+    GOOSEOFTEN_NUMBER = 6,       /* the number or the round is not the one due */
+    GOOSEOFTEN_FIELD = 7,        /* a field is no group element, or not below q */
+    GOOSEOFTEN_PROOF = 8,        /* a proof fails */
+    GOOSEOFTEN_COUNT = 9,        /* a count is above the number of counted ballots */
+    GOOSEOFTEN_TALLY = 10,       /* a tally equation fails */
+    GOOSEOFTEN_OUT = 11,         /* out is not the one due */
+    GOOSEOFTEN_REMAIN = 12,      /* bytes remain after the closing sheet */
+    GOOSEOFTEN_RANKINGS = 13,    /* the rankings' length is wrong, or a ranking lacks a process */
+    GOOSEOFTEN_DRAWS = 14,       /* draws are too few, or one is outside 1 to q - 1 */
+    GOOSEOFTEN_OUTPUT = 15,      /* out or found is shorter than what is to be written */
+    GOOSEOFTEN_DIGESTS = 16,     /* the digests are more than 500, out of order, or no multiple of 32
+                                    bytes */
+    GOOSEOFTEN_KIND = 17,        /* a ballot's kind is neither counted nor audited; of a job, or the
+                                    kinds are not one a ballot */
+    GOOSEOFTEN_OPENING = 18,     /* an audited ballot does not open to what it shows */
+    GOOSEOFTEN_NONE_COUNTED = 19 /* no ballot is counted */
 };
 
 static inline size_t gooseoften_refusal_number(size_t code)
@@ -62,16 +66,21 @@ enum gooseoften_answer {
     GOOSEOFTEN_WRITE_LENGTH = 11
 };
 
-/* The verdict on a board. */
+/* The verdict on a board. Its result is that of the counted ballots; an audited ballot opens to the
+ * ranking that it shows, with the exponents that it shows, and is not counted. */
 size_t gooseoften_check(const uint8_t *board, size_t board_length,
                         size_t answer[GOOSEOFTEN_CHECK_LENGTH]);
 
 /* Writes the board of a job to the front of out, or refuses and leaves out and answer as they were.
- * Rankings: a byte a place, one ranking after another. Draws are used in the order of the board;
- * spare ones are ignored. */
+ * Rankings: a byte a place, one ranking after another, of every ballot. Kinds: a byte a ballot, 0
+ * counted, 1 audited; at least one is counted. An audited ballot is opened instead of counted: its
+ * record shows its ranking and the exponents of its pairs, which are draws. They are public then: the
+ * caller sees to it that none of them is drawn for a counted ballot, too. Draws are used in the order
+ * of the board; spare ones are ignored. */
 size_t gooseoften_write(size_t n, size_t k, uint32_t p, uint32_t q, uint32_t g0, uint8_t counter,
                         const uint8_t *label, size_t label_length,
                         const uint8_t *rankings, size_t rankings_length,
+                        const uint8_t *kinds, size_t kinds_length,
                         const uint32_t *draws, size_t draws_length,
                         uint8_t *out, size_t out_length,
                         size_t answer[GOOSEOFTEN_WRITE_LENGTH]);
@@ -80,8 +89,8 @@ size_t gooseoften_write(size_t n, size_t k, uint32_t p, uint32_t q, uint32_t g0,
  * bytes. Writes for each digest to the front of found the number of its ballot from 1, of several the
  * lowest, or 0 for none, or refuses and leaves found as it was. Digests: up to 500 of 32 bytes, one
  * after another, none below the one before it. They are tested first (16), then found's length (15),
- * then the header and each BA's length, mark and number (1 to 6). Fields and proofs are left to the
- * check, and nothing after the last BA is read. */
+ * then the header and each BA's length, mark, number and kind (1 to 6 and 17). Fields, proofs and what
+ * an audited ballot opens to are left to the check, and nothing after the last BA is read. */
 size_t gooseoften_find(const uint8_t *board, size_t board_length,
                        const uint8_t *digests, size_t digests_length,
                        uint16_t *found, size_t found_length);

@@ -3,6 +3,7 @@ dishonest records are made by the reference's craft.py and faults."""
 import random
 import re
 
+import audit_cases
 import boardref as ref
 import gen
 import message_cases
@@ -223,9 +224,11 @@ def sound(cases, rng):
 def large(cases, rng):
     base = Base(rng, 'thousand', 2, [[1, 2] if k % 2 else [2, 1] for k in range(1000)], HOUSE)
     cases.add('thousand', base.board, ('accepted', 1, [], 1), 'K1000', 'hand.K', 'ties')
-    number, cut = base.starts[257] + 2, base.starts[258]
-    cases.add('thousand.ba257.number=1', base.board[:number] + be(1, 2) + base.board[number + 2:cut],
-              ('refused', 6, 257), 'K1000', '6.BA middle')
+    for k in (1, 2):                                 # the low byte is the one due
+        number, cut = base.starts[k] + 2, base.starts[k + 1]
+        cases.add('thousand.ba%d.number=%d' % (k, 256 + k),
+                  base.board[:number] + be(256 + k, 2) + base.board[number + 2:cut],
+                  ('refused', 6, k), 'K1000', '6.BA ' + PLACES[k - 1])
 
     base = Base(rng, 'eight', 8, [list(range(1, 9)), list(range(8, 0, -1))], HOUSE)
     assert base.rounds == 7
@@ -259,17 +262,19 @@ def false_proofs(cases, pool):
     pool.pick(cases, 'eq_SH', ['equation', '8.SH middle'], 'branch', 1, any_ballot,
               lambda board, note: board[2] == 3 and turned(board, note))
     pool.pick(cases, 'eq_SH', ['equation', '8.SH middle'], 'round 3.*branch [02] statement [049]:', 1,
-              any_ballot, turned)
-    pool.pick(cases, 'eq_SH', ['equation', '8.SH middle'], 'sum', 2, lambda board, note: board[2])
+              any_ballot, turned, cut=True)
+    pool.pick(cases, 'eq_SH', ['equation', '8.SH middle'], 'sum', 2, lambda board, note: board[2],
+              cut=True)
     pool.pick(cases, 'lastrows', ['printed', '8.SH middle'], '', 2, any_ballot,
               lambda board, note: board[2] == 3)
     pool.pick(cases, 'lastrows', ['printed', '8.SH middle'], '', 1, any_ballot,
-              lambda board, note: board[2] == 4)
+              lambda board, note: board[2] == 4, cut=True)
     pool.pick(cases, 'lastrows', ['printed', '8.SH middle'], 'round 2 ballot 5: .*(other|before)', 1,
-              any_ballot, lambda board, note: board[2] == 5)
-    pool.pick(cases, 'oneentry', ['struck', '8.SH middle'], 'row 1 column 1|row [23] column 4')
+              any_ballot, lambda board, note: board[2] == 5, cut=True)
+    pool.pick(cases, 'oneentry', ['struck', '8.SH middle'], 'row 1 column 1|row [23] column 4',
+              cut=True)
     for name in ('otherproc', 'otherrow'):
-        pool.pick(cases, name, ['struck', '8.SH middle'], '', 2, lambda board, note: '')
+        pool.pick(cases, name, ['struck', '8.SH middle'], '', 2, lambda board, note: '', cut=True)
 
 
 def false_sheets(cases, pool):
@@ -277,7 +282,7 @@ def false_sheets(cases, pool):
     for name in ('half', 'goeson'):
         pool.pick(cases, name, ['half'])
     for name in ('early', 'again'):
-        pool.pick(cases, name, ['half'], '', 1, lambda board, note: '')
+        pool.pick(cases, name, ['half'], '', 1, lambda board, note: '', cut=True)
     pool.pick(cases, 'half_ok', ['half', 'sound'], longest=5000)
     pool.pick(cases, 'moved', ['tally', '10 middle'], '', 2, lambda board, note: note[:3])
     pool.pick(cases, 'bonly', ['tally', '10 middle'])
@@ -292,9 +297,9 @@ def false_sheets(cases, pool):
 def ties(cases, pool):
     """Equal counts: elections worked by hand, but for those of many ballots, and boards that decide
     by another rule."""
-    pool.pick(cases, 'tie', ['ties', '11 first'], longest=9000)
+    pool.pick(cases, 'tie', ['ties', '11 first'], longest=9000, cut=True)
     for worked in WORKED:
-        length = ref.board_length(worked.n, worked.K, len(worked.counts))
+        length = ref.board_length(worked.n, bytes(worked.K), len(worked.counts))
         if not worked.rankings or length < 20000:
             pool.pick(cases, 'equal', ['ties', 'sound' if worked.rankings else 'forged',
                                        *['n8'] * (worked.n == 8), *worked.decided],
@@ -339,10 +344,10 @@ def boards():
     three = Base(rng, 'three', 3, cycle, HOUSE)
     small = Base(rng, 'small', 3, cycle, (23, 11, 2))
     four = Base(rng, 'four', 4, [[1, 2, 3, 4], [2, 1, 4, 3]], HOUSE)
-    assert (len(two.board), len(three.board), four.rounds) == (526, 2534, 3)
-    cases.add('two', two.board, ('accepted', 1, [], 1), 'hand.526', 'sound', 'ties')
+    assert (len(two.board), len(three.board), four.rounds) == (528, 2537, 3)
+    cases.add('two', two.board, ('accepted', 1, [], 1), 'hand.528', 'sound', 'ties')
     for base in (three, small):
-        cases.add(base.name, base.board, ('accepted', 2, [3], 1), 'hand.2534', 'sound', 'ties')
+        cases.add(base.name, base.board, ('accepted', 2, [3], 1), 'hand.2537', 'sound', 'ties')
     cases.add('four', four.board, ('accepted', 3, [4, 3], 1), 'sound', 'ties')
     hand(cases, three)
     header_places(cases, two)
@@ -364,6 +369,7 @@ def boards():
     false_sheets(cases, pool)
     ties(cases, pool)
     message_cases.boards(cases, pool, two)
+    audit_cases.boards(cases, pool, random.Random(4))
     sound(cases, rng)
     large(cases, rng)
     return cases

@@ -2,6 +2,8 @@
 import collections
 import re
 
+import boardref as ref
+
 BIG = 2 ** 32 - 1
 Case = collections.namedtuple('Case', 'name case expect covers')     # a case filed
 Made = collections.namedtuple('Made', 'name board expect note')      # a board that faults made
@@ -19,8 +21,8 @@ BOARDS = {
     'hand.n': '01 by hand: n = 8 passes, 9 is 3',
     'hand.K': '01 by hand: K = 1,000 passes, 1,001 and 0 are 3',
     'hand.q': '01 by hand: q = K is 4',
-    'hand.526': '01 by hand: n = 2, K = 2: 526 bytes',
-    'hand.2534': '01 by hand: three rankings: 2,534 bytes, rounds 2, out 3, winner 1',
+    'hand.528': '01 by hand: n = 2, K = 2: 528 bytes',
+    'hand.2537': '01 by hand: three rankings: 2,537 bytes, rounds 2, out 3, winner 1',
     '1': 'refusal 1: each record cut',
     '2': 'refusal 2: mark of each record',
     '3': 'refusal 3: n, K',
@@ -38,6 +40,13 @@ BOARDS = {
     '10': 'refusal 10: tally of a process, by count and by s',
     '11': 'refusal 11: out of a sheet',
     '12': 'refusal 12: one byte, a record, a board more',
+    '17': 'refusal 17: kind of a ballot',
+    '7.x': 'refusal 7: x of an audited ballot, q, x + q and more',
+    '18.x': 'refusal 18: another x of an audited ballot, by its pair',
+    '18.ranking': 'refusal 18: a process twice, 0, n + 1, 255, two exchanged, by the place on the '
+                  'ranking',
+    '18.forged': 'refusal 18: all opens but one pair, b or Y alone; all opens, to no ranking',
+    '19': 'refusal 19: nothing counted, whatever stands behind the last ballot',
     'outside': 'elements outside the group; in some every equation holds',
     'printed': 'rows that the printed theorem leaves unchecked',
     'entry2': 'an entry of 2 with a -1 beside it',
@@ -57,6 +66,15 @@ BOARDS = {
                  'lowest number',
     'half': 'closing at exactly half, a round early, a round late',
     'tally': 'votes moved; tallies whose first equation alone holds',
+    'audited': 'sound boards with one ballot audited',
+    'audited.most': 'sound boards with all but one ballot audited',
+    'turned': 'a ballot of the other kind, its proofs as they are; its kind byte turned alone',
+    'lengths': 'a ballot cut ahead of and behind its kind and at both lengths, of each kind',
+    'lengths.mark': 'the same with another mark',
+    'shifts': 'an audited ballot with an SH, a counted one without, SH numbered 1 to C',
+    'counted': 'counts above C and not above K; products over all ballots',
+    'majority': 'more than half of the counted ballots alone, of all ballots alone',
+    'later': 'the record that is named in a later round, some ballots audited',
     'two': 'two faults: the one that is named',
     'order': 'records left out, twice, exchanged',
     'orders': 'p and q: composites that weak tests pass, bounds',
@@ -67,17 +85,25 @@ BOARDS = {
 }
 
 JOBS = {
-    'hand.526': '01 by hand: n = 2, K = 2: 526 bytes',
-    'hand.2534': '01 by hand: three rankings: 2,534 bytes, 222 draws',
+    'hand.528': '01 by hand: n = 2, K = 2: 528 bytes',
+    'hand.2537': '01 by hand: three rankings: 2,537 bytes, 222 draws',
     '3': 'refusal 3: n, K',
     '4': 'refusal 4: p, q',
     '5': 'refusal 5: g0, counter or g1, label',
     '13.0': 'refusal 13 with 0: the list shorter, longer',
     '13': 'refusal 13 with the bad ranking',
+    '13.audited': 'refusal 13 with the bad ranking of an audited ballot',
+    '17.length': 'refusal 17: kinds too few, too many, none',
+    '17': 'refusal 17: another kind',
+    '19': 'refusal 19: nothing counted',
     '14.few': 'refusal 14: draws too few',
     '14': 'refusal 14: a draw of 0, of q or more',
     '15': 'refusal 15: room for nothing, for the header, for all but a byte',
     'two': 'two faults: the earlier number',
+    'audited': 'written: one ballot audited',
+    'audited.most': 'written: all but one ballot audited',
+    'audited.edges': 'some ballots audited: one draw fewer is 14, one byte fewer 15; draws for an SH '
+                     'of theirs are spare',
     'spare': 'written: spare draws that could not be used',
     'room': 'written: room to spare, kept as it was',
     'n': 'written: 2 to 8 processes',
@@ -97,6 +123,7 @@ FINDS = {
     '4': 'refusal 4: p, q',
     '5': 'refusal 5: g0, counter or g1, label',
     '6': 'refusal 6: number of a ballot',
+    '17': 'refusal 17: kind of a ballot',
     '15': 'refusal 15: no place at all, some, all but one',
     '16.length': 'refusal 16: a length that is no multiple of 32',
     '16.most': 'refusal 16: 501 digests and more',
@@ -115,16 +142,22 @@ FINDS = {
     'unproved': 'found: a ballot whose fields or proofs fail',
     'n': 'found: 2 to 8 processes',
     'groups': 'found: the least group, a tiny one, q just above K',
+    'audited': 'found: an audited ballot by its number',
+    'part': 'found: digests of an audited ballot without its audited part, of that part alone',
+    'lengths': 'ballots of each kind cut ahead of and behind the kind and at both lengths',
+    'unopened': 'found: a ballot that does not open, on boards that 18 or 19 would refuse',
     'K1000': 'found: K = 1,000 with n = 2',
 }
 
 # rows that are counted by place, with the places that they have
 PLACED = {key: PLACES for key in BOARDS if key[0].isdigit() or key.startswith('message.')}
 PLACED['3'] = PLACED['4'] = ('first', 'last')
-JOB_PLACED = {key: PLACES for key in ('5', '13', '14', '15')}
+PLACED['audited'] = PLACES
+del PLACED['18.forged'], PLACED['19']
+JOB_PLACED = {key: PLACES for key in ('5', '13', '14', '15', '17', 'audited')}
 JOB_PLACED['3'] = JOB_PLACED['4'] = ('first', 'last')
-FIND_PLACED = {key: PLACES for key in ('1', '2', '5', '6', '15', '16.byte', '16.pair', 'found',
-                                       'place')}
+FIND_PLACED = {key: PLACES for key in ('1', '2', '5', '6', '15', '16.byte', '16.pair', '17', 'found',
+                                       'place', 'audited')}
 FIND_PLACED['3'] = FIND_PLACED['4'] = ('first', 'last')
 
 
@@ -174,9 +207,10 @@ class Pool:
     def add(self, name, board, expect=None, note='', sure=True):
         self.items.append(Made(name, board, expect if sure else None, note))
 
-    def pick(self, cases, name, covers, note='', most=1, key=None, where=None, longest=BIG):
+    def pick(self, cases, name, covers, note='', most=1, key=None, where=None, longest=BIG, cut=False):
         """Files the boards of a name whose note matches and for which where(board, note) holds;
-        with a key, at most `most` of each key(board, note)."""
+        with a key, at most `most` of each key(board, note).  cut: without what stands behind the
+        record that is refused."""
         groups = {}
         for item in self.items:
             if (item.name == name and re.search(note, item.note) and len(item.board) <= longest
@@ -186,7 +220,23 @@ class Pool:
         assert groups, (name, note)
         for items in groups.values():
             for item in spread(items, most):
-                cases.add('%s.%s' % (name, item.note), item.board, item.expect, *covers)
+                board = item.board[:end_of(item.board, item.expect[2])] if cut else item.board
+                cases.add('%s.%s' % (name, item.note), board, item.expect, *covers)
+
+
+def end_of(board, record):
+    """Where a record of a board ends, the marks up to it being the ones due."""
+    n, at, m = board[2], ref.HF_LENGTH, 1
+    for _ in range(record):
+        mark = board[at:at + 2]
+        if mark == b'BA':
+            at += ref.ba_length(n, board[at + 4])
+        elif mark == b'SH':
+            at += ref.sh_length(n, n - m + 1)
+        else:
+            at += ref.rt_length(n)
+            m += 1
+    return at
 
 
 def spread(items, most):

@@ -1,66 +1,22 @@
 """Receipts for the test program `find_cases`, filed under what they cover (covered.py): a board,
 digests, and the places of the lent list.
 
-A walk reads no further into a ballot than its number, so most boards here have ballots of random
+A walk reads no further into a ballot than its kind, so most boards here have ballots of random
 bytes and no sheet.  No two ballots of a walked board are equal, since each has its number: no case
 can tell that the lowest of several numbers is the one found."""
-import hashlib
 import random
 
 import board_cases
 import boardref as ref
+import find_audited
 import gen
 from boardref import be
-from covered import FIND_PLACED, FINDS, PLACES as SPOTS, Cases, place
+from covered import FIND_PLACED, FINDS, PLACES as SPOTS, place
 from mutate import Base
+from walks import PLACES, Finds, Walk, digest, random_walk
 
 HOUSE = gen.HOUSE
-PLACES = 512                                                 # of the test program's list
 MOST = 500                                                   # digests
-
-
-def digest(data):
-    return hashlib.sha256(data).digest()
-
-
-class Walk:
-    """A board by its records, the header first, and the digests of its ballots."""
-
-    def __init__(self, name, records):
-        self.name, self.records = name, records
-        self.K = int.from_bytes(records[0][3:5], 'big')
-        self.board = b''.join(records)
-        self.ballots = b''.join(records[:self.K + 1])        # up to the last
-        self.pairs = [(digest(records[k]), k) for k in range(1, self.K + 1)]
-        self.rising = b''.join(sorted(one for one, _ in self.pairs))
-
-    def but(self, changes):
-        """The board with the records of some numbers changed."""
-        return b''.join(changes.get(i, record) for i, record in enumerate(self.records))
-
-    def start(self, record):
-        return len(b''.join(self.records[:record]))
-
-
-def random_walk(rng, name, n, K, group=HOUSE):
-    """A sound header, and ballots of random bytes."""
-    p, q, g0 = group
-    label, counter = gen.label_counter(rng, p, q, g0)
-    header = ref.header_bytes(n, K, p, q, g0, counter, ref.make_g1(p, q, g0, counter, label), label)
-    return Walk(name, [header] + [b'BA' + be(k, 2) + rng.randbytes(ref.ba_length(n) - 4)
-                                  for k in range(1, K + 1)])
-
-
-class Finds(Cases):
-    def found(self, name, board, pairs, *covers, spare=0):
-        """Digests with the numbers that are due, in any order."""
-        pairs = sorted(pairs)
-        self.add(name, (board, b''.join(one for one, _ in pairs), len(pairs) + spare),
-                 ('found', [number for _, number in pairs]), *covers)
-
-    def refused(self, name, board, digests, number, record, *covers, spare=0):
-        self.add(name, (board, digests, len(digests) // 32 + spare), ('refused', number, record),
-                 *covers)
 
 
 # ------------------------------------------------------------------ what is found
@@ -278,13 +234,15 @@ def two_faults(cases, walk):
     K, records = walk.K, walk.records
     for k in (1, K):
         number0, both = b'BA\0\0' + records[k][4:], b'SH\0\0' + records[k][4:]
-        for name, record, number in (('mark-and-number', both, 2), ('number', number0, 6)):
+        for name, record, number in (('mark-and-number', both, 2), ('number', number0, 6),
+                                     ('number-and-kind', number0[:4] + b'\2' + number0[5:], 6),
+                                     ('all-three', both[:4] + b'\2' + both[5:], 2)):
             board = walk.but({k: record})
             cut = board[:walk.start(k) + len(record) - 1]
             cases.refused('%s.ba%d.cut-and-%s' % (walk.name, k, name), cut, walk.rising, 1, k,
                           'two')
             cases.refused('%s.ba%d.%s' % (walk.name, k, name), board, walk.rising, number, k,
-                          *['two'] * (number == 2))
+                          *['two'] * (name != 'number'))
     late = {1: b'BA\0\0' + records[1][4:], K: b'XX' + records[K][2:]}
     cases.refused(walk.name + '.number-1-and-mark-%d' % K, walk.but(late), walk.rising, 6, 1, 'two')
     cases.refused(walk.name + '.number-1-and-cut', walk.but(late)[:-1], walk.rising, 6, 1, 'two')
@@ -350,6 +308,7 @@ def finds():
     random3 = random_walk(rng, 'random', 2, 3)
     looked_up(cases, rng, random3)
     looked_up(cases, rng, random_walk(rng, 'one', 2, 1))
+    find_audited.finds(cases, rng)
     places_of_a_list(cases, rng, random_walk(rng, 'single', 2, 1))
     other_things(cases, sound)
     behind(cases, sound)

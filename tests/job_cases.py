@@ -1,33 +1,36 @@
 """Writer jobs for the test program `job_cases`, filed under what they cover (covered.py)."""
+import itertools
 import random
 
 import boardref as ref
 import gen
-from covered import BIG, JOB_PLACED, JOBS, Cases
+from covered import BIG, JOB_PLACED, JOBS, PLACES, Cases, place
 from elections import WORKED
 
 HOUSE = gen.HOUSE
-NAMES = ('n', 'K', 'p', 'q', 'g0', 'counter', 'label', 'rankings', 'draws', 'out_len')
+NAMES = ('n', 'K', 'p', 'q', 'g0', 'counter', 'label', 'rankings', 'kinds', 'draws', 'out_len')
 CYCLE = [[1, 2, 3], [2, 3, 1], [3, 1, 2]]
 
 
 class Job:
-    """A sound job; `but` gives it with some parts changed."""
+    """A sound job; `but` gives it with some parts changed.  audited: the numbers of the audited
+    ballots."""
 
-    def __init__(self, rng, n, lists, group, draws='random', counter=None):
+    def __init__(self, rng, n, lists, group, draws='random', counter=None, audited=()):
         p, q, g0 = group
         g0 = g0 or gen.elements_g0(rng, p, q)
         label, found = gen.label_counter(rng, p, q, g0)
         while counter is not None and not ref.g1_holds(g0, ref.make_g1(p, q, g0, counter, label)):
             label = rng.randbytes(32)
         self.n, self.K, self.q = n, len(lists), q
-        self.rounds, _, self.outs, self.winner = ref.plain_count(n, lists)
-        self.needed = ref.draws_needed(n, self.K, self.rounds)
-        self.length = ref.board_length(n, self.K, self.rounds)
+        kinds = gen.audited_at(self.K, *audited)
+        self.rounds, _, self.outs, self.winner = ref.plain_count(n, gen.counted(lists, kinds))
+        self.needed = ref.draws_needed(n, kinds, self.rounds)
+        self.length = ref.board_length(n, kinds, self.rounds)
         self.parts = dict(zip(NAMES, (
             n, self.K, p, q, g0, found if counter is None else counter, label,
-            bytes(x for r in lists for x in r), tuple(gen.make_draws(rng, q, self.needed, draws)),
-            self.length)))
+            bytes(x for r in lists for x in r), kinds,
+            tuple(gen.make_draws(rng, q, self.needed, draws)), self.length)))
 
     def but(self, **changes):
         return tuple({**self.parts, **changes}[name] for name in NAMES)
@@ -94,20 +97,92 @@ def weak_generators(cases, rng):
 
 
 def two_faults(cases, job):
-    """For every two refusals a job with both faults; the third, with all."""
+    """For every two refusals a job with both faults; then one with all."""
     rankings = job.parts['rankings']
+    # in the order of the tests
     faults = {3: {'n': 1}, 4: {'q': 4}, 5: {'label': bytes(31)}, 13: {'rankings': put(rankings, 4, 0)},
+              17: {'kinds': b'\0\1\2'}, 19: {'kinds': b'\1\1\1'},
               14: {'draws': job.parts['draws'][:-1]}, 15: {'out_len': job.length - 1}}
-    for first in faults:
-        for second in faults:
-            if first < second:
-                cases.add('three.faults-%d-and-%d' % (first, second),
-                          job.but(**faults[first], **faults[second]),
-                          ('refused', first, 2 if first == 13 else 0), 'two')
+    for first, second in itertools.combinations(faults, 2):
+        both = {**faults[second], **faults[first]}
+        if (first, second) == (17, 19):
+            both = {'kinds': b'\1\2\1'}
+        cases.add('three.faults-%d-and-%d' % (first, second), job.but(**both),
+                  ('refused', first, 2 if first == 13 else 0), 'two')
     every = {part: value for fault in faults.values() for part, value in fault.items()}
     cases.add('three.faults-all', job.but(**every), ('refused', 3, 0), 'two')
     cases.add('three.faults-length-and-ranking', job.but(rankings=put(rankings, 4, 0) + b'\1'),
               ('refused', 13, 0), 'two')
+
+
+def bad_kinds(cases, name, job):
+    """17 and 19; the rest of the job is fine, or lacks all draws or all room."""
+    kinds = job.parts['kinds']
+    assert job.K == len(kinds) == 3
+
+    def one(value, number, *covers):
+        cases.add('%s.kinds=%s' % (name, value.hex()), job.but(kinds=value), ('refused', number, 0),
+                  *covers)
+
+    for value in (b'', kinds[:-1], kinds + b'\0', kinds + b'\1', kinds * 2, b'\1\1', b'\1' * 4):
+        one(value, 17, '17.length')
+    for at, where in enumerate(PLACES):
+        for value in (2, 255):
+            one(put(kinds, at, value), 17, '17 ' + where)
+    one(b'\2\2\2', 17, '17 first')
+    one(b'\1\1\1', 19, '19')
+    for value, number in ((b'\1\1', 17), (b'\2\0\0', 17), (b'\1\1\1', 19)):
+        for part, less in (('draws', ()), ('out_len', 0)):
+            cases.add('%s.kinds=%s.no-%s' % (name, value.hex(), part),
+                      job.but(**{'kinds': value, part: less}), ('refused', number, 0), 'two')
+
+
+def none_counted(cases, rng):
+    for n, K in ((2, 1), (2, 2), (8, 1)):
+        job = Job(rng, n, [list(range(1, n + 1))] * K, HOUSE)
+        cases.add('none.n%d.k%d' % (n, K), job.but(kinds=b'\1' * K), ('refused', 19, 0), '19')
+
+
+def audited(cases, rng):
+    """Some ballots audited."""
+    for n, lists, group, numbers, covers in (
+            (2, [[1, 2], [2, 1]], HOUSE, (1,), ['audited first', 'audited.most']),
+            (2, [[1, 2], [2, 1]], (7, 3, 2), (2,), ['audited last', 'audited.most', 'groups']),
+            (3, CYCLE, HOUSE, (1,), ['audited first', 'ties']),
+            (3, CYCLE, (23, 11, 2), (2,), ['audited middle', 'ties', 'groups']),
+            (3, CYCLE, HOUSE, (3,), ['audited last', 'ties']),
+            (3, CYCLE, HOUSE, (1, 3), ['audited.most']),
+            (3, [[1, 2, 3], [1, 3, 2], [2, 1, 3], [3, 2, 1], [2, 3, 1]], HOUSE, (2, 4), []),
+            (4, [[1, 2, 3, 4], [2, 1, 4, 3], [3, 4, 1, 2]], HOUSE, (1,), ['audited first', 'ties']),
+            (5, gen.rankings_of(rng, 5, 4, 'random'), (2147483647, 331, None), (2, 3), []),
+            (8, [list(range(1, 9)), list(range(8, 0, -1)), [2, 1, 3, 4, 5, 6, 7, 8]], HOUSE, (3,),
+             ['audited last', 'n8', 'ties'])):
+        job = Job(rng, n, lists, group, audited=numbers)
+        cases.add('audited.n%d.k%d.q%d.rounds%d.of.%s' % (n, job.K, job.q, job.rounds,
+                                                         '-'.join(map(str, numbers))),
+                  job.but(), job.written(), 'n', *covers)
+
+
+def audited_edges(cases, rng):
+    """Draws and room as needed and one fewer, bad rankings, draws that nobody needs."""
+    for audited in ((1,), (2,), (3,), (1, 2)):
+        job = Job(rng, 3, CYCLE, HOUSE, audited=audited)
+        name = 'audited.%s' % '-'.join(map(str, audited))
+        draws, k = job.parts['draws'], audited[-1]
+        cases.add(name + '.a-draw-fewer', job.but(draws=draws[:-1]), ('refused', 14, 0),
+                  'audited.edges', '14.few')
+        cases.add(name + '.a-byte-fewer', job.but(out_len=job.length - 1), ('refused', 15, 0),
+                  'audited.edges', '15 last')
+        cases.add(name + '.a-byte-more', job.but(out_len=job.length + 1), job.written(), 'room')
+        cases.add(name + '.unused-draws', job.but(draws=draws + (0,) * 64), job.written(),
+                  'audited.edges', 'spare')
+        for value in (0, 4, 255):
+            bad = put(job.parts['rankings'], 3 * k - 1, value)
+            cases.add(name + '.ranking-%d-has-%d' % (k, value), job.but(rankings=bad),
+                      ('refused', 13, k), '13.audited', '13 ' + PLACES[k - 1])
+        at = (k - 1) * ref.ba_draws(3)
+        cases.add(name + '.draw-%d=0' % at, job.but(draws=put(draws, at, 0)), ('refused', 14, 0),
+                  '14 ' + place(at, job.needed))
 
 
 def thousand(cases, rng):
@@ -117,6 +192,10 @@ def thousand(cases, rng):
         bad = put(job.parts['rankings'], 2 * k - 1, 3)
         cases.add('thousand.bad-ranking-%d' % k, job.but(rankings=bad, draws=()),
                   ('refused', 13, k), '13 ' + where)
+    half = Job(rng, 2, [[1, 2], [2, 1]] * 500, HOUSE, audited=range(2, 1001, 2))
+    cases.add('thousand.half-audited', half.but(), half.written(), 'K1000')
+    bad = put(half.parts['kinds'], 999, 2)
+    cases.add('thousand.bad-kind-1000', half.but(kinds=bad, draws=()), ('refused', 17, 0), '17 last')
     cases.add('thousand.k=q=331', Job(rng, 2, [[2, 1]] * 331, (662 * 3 + 1, 331, None)).but(draws=()),
               ('refused', 4, 0), '4 last')
 
@@ -167,17 +246,22 @@ def jobs():
     cases = Cases(JOBS, JOB_PLACED)
     two = Job(rng, 2, [[1, 2], [2, 1]], HOUSE)
     three = Job(rng, 3, CYCLE, HOUSE)
-    assert (two.length, three.length, three.needed) == (526, 2534, 222)
-    cases.add('two', two.but(), two.written(), 'hand.526', 'n', 'ties')
-    cases.add('three', three.but(), three.written(), 'hand.2534', 'n', 'ties')
+    assert (two.length, three.length, three.needed) == (528, 2537, 222)
+    cases.add('two', two.but(), two.written(), 'hand.528', 'n', 'ties')
+    cases.add('three', three.but(), three.written(), 'hand.2537', 'n', 'ties')
     cases.add('three.room', three.but(out_len=70000), three.written(), 'room')
     for spare in ((0,), (0, three.q, BIG)):
         cases.add('three.%d-spare-draws' % len(spare),
                   three.but(draws=three.parts['draws'] + spare), three.written(), 'spare')
     refused(cases, 'three', three)
     two_faults(cases, three)
+    bad_kinds(cases, 'three', three)
+    bad_kinds(cases, 'middle', Job(rng, 3, CYCLE, HOUSE, audited=(2,)))
+    none_counted(cases, rng)
     weak_generators(cases, rng)
     written(cases, rng)
     thousand(cases, rng)
     ties(cases, rng)
+    audited(cases, rng)
+    audited_edges(cases, rng)
     return cases

@@ -84,11 +84,12 @@ def large_boards():
     rng = random.Random(65537)
     boards = []
     p, q, g0 = gen.HOUSE
-    for n, K in ((8, 12), (3, 200), (2, 500)):
+    for n, K, audited in ((8, 12, ()), (3, 200, ()), (2, 500, ()), (4, 60, range(1, 61, 3))):
         label, counter = gen.label_counter(rng, p, q, g0)
         rankings = [c for ranking in gen.rankings_of(rng, n, K, 'cycle') for c in ranking]
-        draws = gen.make_draws(rng, q, ref.draws_needed(n, K, n - 1))
-        board = ref.write(n, K, p, q, g0, counter, label, rankings, draws, 1 << 25)[1]
+        kinds = gen.audited_at(K, *audited)
+        draws = gen.make_draws(rng, q, ref.draws_needed(n, kinds, n - 1))
+        board = ref.write(n, K, p, q, g0, counter, label, rankings, kinds, draws, 1 << 25)[1]
         assert len(board) > LIMIT, len(board)
         boards += [board, board[:-1], board + b'\0', board[:LIMIT + 1]]
         for _ in range(12):
@@ -159,7 +160,7 @@ def unasked(program, folder):
     standard input, with no digest, and with no file of digests."""
     sound, tests = path('crates', 'boardcheck', 'stdin'), path('tests')
     missing = path('tests', 'no_such_file')
-    first = hashlib.sha256(stored.content('crates', 'boardcheck', 'stdin')[54:514]).digest()
+    first = hashlib.sha256(stored.content('crates', 'boardcheck', 'stdin')[54:515]).digest()
     digests = put(folder, 'digests', bytes(32) + first)
     with open(sound, 'rb') as board:
         return [run_host(program, '--digests', *names, stdin=board) for names in (
@@ -185,8 +186,8 @@ def lent(kind, values):
 def write(library, job, out, answer):
     return library.gooseoften_write(
         job.n, job.K, job.p, job.q, job.g0, job.counter, *lent(ctypes.c_uint8, list(job.label)),
-        *lent(ctypes.c_uint8, list(job.rankings)), *lent(ctypes.c_uint32, job.draws), out,
-        len(out) if out is not None else 0, answer)
+        *lent(ctypes.c_uint8, list(job.rankings)), *lent(ctypes.c_uint8, list(job.kinds)),
+        *lent(ctypes.c_uint32, job.draws), out, len(out) if out is not None else 0, answer)
 
 
 def reply(library, job):
@@ -228,7 +229,7 @@ def found_by(library, case):
 
 def null_finds(library, board):
     """(code, list unchanged) where board, digests and list are null and empty, by turns and all."""
-    digest = hashlib.sha256(board[54:282]).digest()
+    digest = hashlib.sha256(board[54:283]).digest()
     seen = []
     for lent_board, digests, room in ((b'', digest, 1), (board, b'', 1), (board, digest, 0),
                                       (board, b'', 0), (b'', b'', 0)):
@@ -240,8 +241,9 @@ def null_finds(library, board):
 
 def nulls(library, job):
     """(code, answer unchanged) where each slice in turn, and each from it on, is null and empty."""
-    empty = [dict(label=b''), dict(rankings=b''), dict(draws=[]), dict(room=0),
-             dict(rankings=b'', draws=[]), dict(label=b'', rankings=b'', draws=[], room=0)]
+    empty = [dict(label=b''), dict(rankings=b''), dict(kinds=b''), dict(draws=[]), dict(room=0),
+             dict(rankings=b'', kinds=b'', draws=[]),
+             dict(label=b'', rankings=b'', kinds=b'', draws=[], room=0)]
     seen = []
     for changed in empty:
         poor = job._replace(**changed)
@@ -294,8 +296,8 @@ def compare_functions(comparison, library):
                        [case.line for case in finds])
     sound = next(job for job in jobs if job.name == 'two')
     comparison.compare('null pointers of length 0', nulls(library, sound),
-                       [(5, True), (13, True), (14, True), (15, True), (13, True), (5, True),
-                        (1, True)])
+                       [(5, True), (13, True), (17, True), (14, True), (15, True), (13, True),
+                        (5, True), (1, True)])
     board = next(board.bytes for board in stored.boards() if board.name == 'two')
     comparison.compare('null pointers of length 0, receipts', null_finds(library, board),
                        [(1, True), (0, True), (15, True), (0, True), (1, True)])

@@ -14,7 +14,7 @@ piece is its length, a number, and then its bytes.
 
   a board:  name (a piece, ASCII), board (a piece)
   a job:    name (a piece, ASCII), numbers n, K, p, q, g0, counter, length of the output, then label,
-            rankings and draws (pieces; a draw is a number)
+            rankings, kinds and draws (pieces; a draw is a number)
   a find:   name (a piece, ASCII), board and digests (pieces), number of places of the lent list
 
 The program prints a line for each frame:
@@ -39,6 +39,7 @@ import boardref as ref
 import board_cases
 import find_cases
 import job_cases
+import walks
 from boardref import be
 
 
@@ -59,8 +60,8 @@ def board_case(name, board, expect):
 
 
 def job_case(name, job, expect):
-    n, K, p, q, g0, counter, label, rankings, draws, out_len = job
-    answer = ref.write(n, K, p, q, g0, counter, label, list(rankings), list(draws), out_len)
+    n, K, p, q, g0, counter, label, rankings, kinds, draws, out_len = job
+    answer = ref.write(n, K, p, q, g0, counter, label, list(rankings), kinds, list(draws), out_len)
     if answer[0] == 'refused':
         assert answer == expect, (name, expect, answer)
         line = 'refused %d %d, output unchanged' % answer[1:]
@@ -71,14 +72,15 @@ def job_case(name, job, expect):
         line = 'written %d %s %s, rest unchanged' % (
             len(board), hashlib.sha256(board).hexdigest(), outcome(rounds, outs, winner))
     frame = (piece(name.encode()) + b''.join(be(x, 4) for x in (n, K, p, q, g0, counter, out_len))
-             + piece(label) + piece(rankings) + piece(b''.join(be(d, 4) for d in draws)))
+             + piece(label) + piece(rankings) + piece(kinds)
+             + piece(b''.join(be(d, 4) for d in draws)))
     return frame, '%s %s\n' % (name, line)
 
 
 def find_case(name, case, expect):
     board, digests, room = case
     answer = ref.find(board, digests, room)
-    assert answer == expect and room <= find_cases.PLACES, (name, expect, answer)
+    assert answer == expect and room <= walks.PLACES, (name, expect, answer)
     if answer[0] == 'refused':
         line = 'refused %d %d, list unchanged' % answer[1:]
     else:
@@ -97,7 +99,7 @@ def sample(cases):
     """01's board of three rankings, and the text that 01 has for it."""
     board = next(item.case for item in cases.items if item.name == 'three')
     text = 'accepted\nrounds 2\nout 3\nwinner 1\n'
-    assert len(board) == 2534 and ref.boardcheck(board) == text
+    assert len(board) == 2537 and ref.boardcheck(board) == text
     return board, text.encode()
 
 

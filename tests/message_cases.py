@@ -5,8 +5,7 @@ refused."""
 import collections
 import re
 
-from covered import place
-from craft import layout
+from covered import end_of, place
 from faults.messages import OTHERS
 
 # a board of the pool: n, the ballot and how many there are, the kind of the proof, its place in its
@@ -35,13 +34,6 @@ def spot(other):
         return place((other.at - 2) * other.K + other.ballot - 1, (n - 2) * other.K)
     first, count = {'entry': (0, n * n), 'row': (n * n, n), 'col': (n * n + n, n)}[other.kind]
     return place((other.ballot - 1) * count + other.at - first, other.K * count)
-
-
-def end_of(board, record):
-    """Where a record of a board of at most n - 1 rounds ends."""
-    n, K = board[2], int.from_bytes(board[3:5], 'big')
-    starts = [field.start for field in layout(n, K, n - 1) if field.kind == 'mark']
-    return starts[record + 1] if record + 1 < len(starts) else len(board)
 
 
 def add(cases, item, *covers):

@@ -3,8 +3,8 @@
  *
  *   stack BOARD DIGESTS
  *
- * It writes a board of 8 processes in 7 rounds, checks it, finds the digests of a file on the board of
- * another, and prints the bytes of each call. */
+ * It writes a board of 8 processes in 7 rounds, of three ballots one audited, checks it, finds the
+ * digests of a file on the board of another, and prints the bytes of each call. */
 #define _GNU_SOURCE
 #include <stdbool.h>
 #include <stdio.h>
@@ -14,7 +14,7 @@
 
 #include "gooseoften.h"
 
-enum { ROOM = 1 << 20, FILL = 0xa5, N = 8, K = 2, DRAWS = 10000, BOARD = 1 << 18, DIGESTS = 500 };
+enum { ROOM = 1 << 20, FILL = 0xa5, N = 8, K = 3, DRAWS = 10000, BOARD = 1 << 18, DIGESTS = 500 };
 
 static uint8_t board[BOARD], digests[DIGESTS * 32];
 static size_t length, digests_length, code;
@@ -34,7 +34,7 @@ static void find(void)
 
 static void write_board(void)
 {
-    static uint8_t rankings[N * K];
+    static uint8_t rankings[N * K], kinds[K] = {0, 0, 1}; /* the last is audited */
     static uint32_t draws[DRAWS];
     const char *label = "Gooseoften, stack of one call   ";
     for (size_t i = 0; i < N * K; i++) {
@@ -46,7 +46,8 @@ static void write_board(void)
         draws[i] = (uint32_t)(1 + i);
     }
     code = gooseoften_write(N, K, 2147483579, 1073741789, 4, 0, (const uint8_t *)label, 32, rankings,
-                            sizeof rankings, draws, DRAWS, board, sizeof board, answer);
+                            sizeof rankings, kinds, sizeof kinds, draws, DRAWS, board, sizeof board,
+                            answer);
     length = answer[GOOSEOFTEN_BOARD_LENGTH];
 }
 

@@ -12,7 +12,7 @@ sys.path[:0] = [HERE, os.path.join(HERE, 'reference')]
 LIMIT = 65536                                                # of boardcheck's boards
 
 Board = collections.namedtuple('Board', 'name bytes verdict')
-Job = collections.namedtuple('Job', 'name n K p q g0 counter room label rankings draws')
+Job = collections.namedtuple('Job', 'name n K p q g0 counter room label rankings kinds draws')
 Find = collections.namedtuple('Find', 'name board digests room line')
 
 
@@ -79,7 +79,7 @@ def jobs():
     while frames.more():
         name = frames.piece().decode()
         numbers = [frames.number() for _ in range(7)]
-        stored.append(Job(name, *numbers, frames.piece(), frames.piece(),
+        stored.append(Job(name, *numbers, frames.piece(), frames.piece(), frames.piece(),
                           words_of(frames.piece())))
     return stored
 

@@ -60,10 +60,30 @@ struct claim {
     const uint32_t *inverses; /* of a shift, the inverses of those */
 };
 
-/* A ballot's or shift's pairs stand behind its mark and number. */
+/* What stands ahead of the pairs: mark and number, of a ballot its kind too. */
+enum { BALLOT_FRAME = 5, SHIFT_FRAME = 4 };
+
+/* A ballot's kind: its proofs say nothing of it. */
+enum { COUNTED = 0, AUDITED = 1 };
+
+static uint8_t kind_of(const uint8_t *ballot)
+{
+    return ballot[4];
+}
+
+/* Of a record whose mark is BA or SH. */
 static const uint8_t *pairs_of(const uint8_t *record)
 {
-    return record + 4;
+    return record + (record[0] == 'B' ? BALLOT_FRAME : SHIFT_FRAME);
+}
+
+/* The pair is that of x and v, v being 0 or 1. */
+static bool pair_opens(const struct group *g, const uint8_t *pair, uint32_t x, uint32_t v)
+{
+    uint32_t b = power(g->p, g->g0, x);
+
+    return word(pair) == (v == 1 ? times(g->p, b, g->g1) : b) &&
+           word(pair + 4) == power(g->p, g->g1, x);
 }
 
 /* The product of count words, stride bytes apart, but for the one numbered out. */

@@ -2,7 +2,7 @@
 use Prim.Native.Nat.{ℕ, zero, suc, _+_, _*_, _-_, _/_, _%_, _≤_, _<_}
 use mathlib.Core.Path.{_≡_, refl, sym, ap, _∙_}
 use mathlib.Core.List.{List}
-use native.Mathlib.Nat.{div-add-mod', mod-mod, mod-lt, div-lt-iff-lt-mul}
+use native.Mathlib.Nat.{zero-add, div-add-mod', mod-mod, mod-lt, div-lt-iff-lt-mul}
 use native.Mathlib.Omega.{arith}
 use lib.ListN.{length, getD, replicate}
 use Rattle.sha256.specs.Message.{sha256}
@@ -12,10 +12,11 @@ use Rattle.rules.specs.Proofs.{Statement, Context}
 use Rattle.rules.specs.Claims.{matrixAt, entryClaim, rowClaim, columnClaim}
 use Rattle.rules.specs.Ballot.{ballotContext}
 use Rattle.statements.specs.declared.claims.Claim.{Claim}
-use Rattle.statements.specs.declared.claims.Claim.the-variants.{Entry}
+use Rattle.statements.specs.declared.claims.Claim.the-variants.{Entry, Line}
 use Rattle.statements.specs.Claims.{claimOf, Within}
 use Rattle.statements.proofs.Lines.{by-row, by-column, row-or-column}
-use Rattle.statements.proofs.Places.{lineAt, entry-claimed, line-claimed}
+use Rattle.statements.specs.Lines.{lineStart, lineStride}
+use Rattle.statements.proofs.Places.{entry-claimed, line-claimed, line-stands}
 use Rattle.jobs.proofs.Matrices.{SameMatrix, entry-same, row-same, column-same}
 use Rattle.proving.specs.declared.Plan.{Plan}
 use Rattle.proving.specs.Plans.{DrawsBelow, PlanDraws, Planned, witnessAt, proofOf}
@@ -74,22 +75,27 @@ line-is about label context g claim said w x draws from says e =
 
 -- what a line says on a page that is read as the matrix was made
 pub line-says : (g : Parameters) (n number : ℕ) (list : ℕ → ℕ) (page draws label : List ℕ) (from t : ℕ) → t < n + n →
-    SameMatrix n n (matrixAt page n 0) (matrixOf g n list draws from) → (l i : ℕ) → claimOf page g (lineAt n 0 t) l i ≡ lineSaid label g n number list draws from t
+    SameMatrix n n (matrixAt page n 0) (matrixOf g n list draws from) → (l i : ℕ) → claimOf page g (Line (8 * lineStart n t) (8 * lineStride n t) n) l i ≡ lineSaid label g n number list draws from t
 line-says g n number list page draws label from t low same l i =
     let M = matrixAt page n 0 in
     let N = matrixOf g n list draws from in
-    ap (λ (f : ℕ → ℕ → Statement). f l i) (line-claimed page g n 0 t)
+    ap (λ (f : ℕ → ℕ → Statement). f l i) (rw (zero-add (8 * lineStart n t)) at (line-claimed page g n 0 t))
     ∙ row-or-column n t
     (λ h. by-row n (rowClaim g n M) (columnClaim g n M) t h ∙ row-same g n M N n t same h ∙ sym (by-row n (rowClaim g n N) (columnClaim g n N) t h))
     (λ h. by-column n (rowClaim g n M) (columnClaim g n M) t h ∙ column-same g n M N (t - n) same (omega arith) ∙ sym (by-column n (rowClaim g n N) (columnClaim g n N) t h))
 
+-- and it is within the page
+pub line-ready : (g : Parameters) (n : ℕ) (page inverses : List ℕ) → 8 * (n * n) ≤ length page → (l i t : ℕ) → t < n + n →
+    Within page inverses g (Line (8 * lineStart n t) (8 * lineStride n t) n) l i
+line-ready g n page inverses long l i t low = rw (zero-add (8 * lineStart n t)) at (line-stands page g n 0 inverses (omega arith) l i t low)
+
 pub entry-is : (label : List ℕ) (g : Parameters) (n number : ℕ) (list : ℕ → ℕ) (page draws : List ℕ) (from c v : ℕ) (x : Exponent) → 0 < n → c < n * n →
     SameMatrix n n (matrixAt page n 0) (matrixOf g n list draws from) → v ≡ opened list (c / n) (c % n) → x .0 ≡ getD draws (from + c) 0 →
-    proofOf label (ballotContext number c) g (claimOf page g (Entry (4 + 8 * c))) (record { plan = planOf (Entry (4 + 8 * c)) 2 1 v (from + n * n + 3 * c); witness = alone x }) draws
+    proofOf label (ballotContext number c) g (claimOf page g (Entry (8 * c))) (record { plan = planOf (Entry (8 * c)) 2 1 v (from + n * n + 3 * c); witness = alone x }) draws
     ≡ entryIn label g n number list draws from c
 entry-is label g n number list page draws from c v x some low same ev ex =
-    let here : claimOf page g (Entry (4 + 8 * c)) ≡ (λ l _. entryClaim g (matrixAt page n 0 .b (c / n) (c % n)) (matrixAt page n 0 .y (c / n) (c % n)) l) =
-    rw (div-add-mod' c n) at (entry-claimed page g n 0 (c / n) (c % n)) in
+    let here : claimOf page g (Entry (8 * c)) ≡ (λ l _. entryClaim g (matrixAt page n 0 .b (c / n) (c % n)) (matrixAt page n 0 .y (c / n) (c % n)) l) =
+    rw (div-add-mod' c n, zero-add (8 * c)) at (entry-claimed page g n 0 (c / n) (c % n)) in
     rw (div-add-mod' c n, ← ev, ← ex)
     (proof-same sha256 label (ballotContext number c) g (λ d. getD draws d 0) 2 1 v (from + n * n + 3 * c) _ _ _ _
     (λ l i h k. ap (λ (f : ℕ → ℕ → Statement). f l i) here ∙ entry-same g n _ _ n (c / n) (c % n) l same (div-lt-iff-lt-mul some .1 low) (mod-lt c some))

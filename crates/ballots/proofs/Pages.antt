@@ -51,17 +51,20 @@ module _ (a k : ℕ) (l r b : List ℕ) (inside : a + k ≡ length l) (e : r ≡
             List·getD-append (take a l) rest 0 (at + d) (omega (arith, count)) ∙ getD-take a l (at + d) 0 (omega arith) ∙ s .same d m;
       })
 
--- two lends of one page
-pub two-stand : (a k a' k' : ℕ) (l r r' x y : List ℕ) → a + k ≡ length l → a' + k' ≡ length l → a + length x ≤ a' → length x ≤ k → length y ≤ k' → r ≡ written x (midOf a k l) →
-    r' ≡ written y (midOf a' k' (putMid a k l r)) →
-    (length (putMid a' k' (putMid a k l r) r') ≡ length l) × Stands (putMid a' k' (putMid a k l r) r') a x × Stands (putMid a' k' (putMid a k l r) r') a' y
-two-stand a k a' k' l r r' x y e e' apart fit fit' er er' =
-    let long : length (putMid a k l r) ≡ a + k = put-long a k l r x e er fit in
-    let whole : a' + k' ≡ length (putMid a k l r) = omega arith in (
-      put-long a' k' (putMid a k l r) r' y whole er' fit' ∙ e',
-      put-keeps a' k' (putMid a k l r) r' y whole er' apart (put-stands a k l r x e er),
-      put-stands a' k' (putMid a k l r) r' y whole er',
-    )
+-- what is written at the front stands there
+pub front-stands : (b l m : List ℕ) → m ≡ written b l → length b ≤ length l → (length m ≡ length l) × Stands m 0 b
+unfolding written
+front-stands b l m e h =
+    let long : length (b ++ drop (length b) l) ≡ length l = simp (length-append, length-drop) (omega arith) in
+    rw e (long, stands-left b _ (stands-whole (b ++ drop (length b) l)))
+
+-- two matrices on one page
+pub two-stand : (a k : ℕ) (l m r x y : List ℕ) → a + k ≡ length l → m ≡ written x l → length x ≤ a → length y ≤ k → r ≡ written y (midOf a k m) →
+    (length (putMid a k m r) ≡ length l) × Stands (putMid a k m r) 0 x × Stands (putMid a k m r) a y
+two-stand a k l m r x y e em apart fit er =
+    let w = front-stands x l m em (omega arith) in
+    let whole : a + k ≡ length m = omega (arith, w .0) in
+    (put-long a k m r y whole er fit ∙ e, put-keeps a k m r y whole er (omega arith) (w .1), put-stands a k m r y whole er)
 
 -- rows of n lists, counted through
 pub grid : (rows n : ℕ) (G : ℕ → ℕ → List ℕ) → 0 < n → concatBelow (rows * n) (λ c. G (c / n) (c % n)) ≡ concatBelow rows (λ i. concatBelow n (G i))
@@ -99,5 +102,5 @@ pub row-few : (c n rows : ℕ) → 0 < n → rows ≤ 8 → c < rows * n → c /
 row-few c n rows h k l = lt-of-lt-of-le (div-lt-iff-lt-mul h .1 l) k
 
 -- the pairs are read back from the page
-pub pairs-back : (page : List ℕ) (at rows n k : ℕ) (M : Matrix) → k ≡ 8 * (rows * n) → Paged page at rows n M → part page (at + 4) k ≡ pairBytes n M rows
+pub pairs-back : (page : List ℕ) (at rows n k : ℕ) (M : Matrix) → k ≡ 8 * (rows * n) → Paged page at rows n M → part page at k ≡ pairBytes n M rows
 pairs-back page at rows n k M e s = part-stands (length-pairs n M rows ∙ sym e) s

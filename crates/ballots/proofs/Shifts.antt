@@ -31,7 +31,7 @@ module _ (g : Parameters) (s : Shift) (draws : List ℕ) (w : Shifting (g .p) (g
   pub cells-few : (s .rows + 1) * s .n ≤ 64
   cells-few = few-pairs (s .rows + 1) (s .n) (omega (arith, w)) (omega (arith, w))
 
-  pub planned-shift : (page inverses : List ℕ) → 1028 ≤ length page → InverseTable page (g .p) (g .q) 0 (2 * ((s .rows + 1) * s .n)) inverses →
+  pub planned-shift : (page inverses : List ℕ) → 1024 ≤ length page → InverseTable page (g .p) (g .q) 0 (2 * ((s .rows + 1) * s .n)) inverses →
       Planned g page inverses (planOf (Shifted 0 512 (s .rows) (s .n) (s .column)) (s .rows + 1) (2 + s .rows * s .n) (s .struck) (s .new + s .rows * s .n)) draws
   unfolding Within
   planned-shift page inverses long t =

@@ -2,26 +2,27 @@
 use Prim.Native.Nat.{ℕ, _+_, _*_, _-_, _/_, _%_, _≤_, _<_}
 use mathlib.Core.Path.{_≡_}
 use mathlib.Core.Bool.{cond}
-use mathlib.Core.List.{List}
+use mathlib.Core.List.{List, [], _∷_, _++_}
 use lib.Dec.{eqb}
 use lib.ListN.{length, getD}
 use Rattle.numbers.specs.Below.{sumBelow}
 use Rattle.sha256.specs.Message.{sha256}
 use Rattle.group.specs.Elements.{Parameters}
 use Rattle.group.specs.declared.Exponent.{Exponent}
-use Rattle.rules.specs.Bytes.{Stands}
+use Rattle.rules.specs.Bytes.{bytes2, Stands}
+use Rattle.rules.specs.Records.{BA}
 use Rattle.rules.specs.Proofs.{Statement}
 use Rattle.rules.specs.Claims.{Matrix, rowClaim, columnClaim}
 use Rattle.rules.specs.Ballot.{ballotContext}
 use Rattle.statements.specs.Lines.{byLine}
 use Rattle.jobs.specs.Prover.{proofBytes}
-use Rattle.jobs.specs.Records.{secretAt, matrixOf, pairBytes, lineProver, entryProver, shiftWitness, shiftProver, shiftBytes}
+use Rattle.jobs.specs.Records.{secretAt, matrixOf, pairBytes, lineProver, entryProver, shiftWitness, shiftProver, ballotProofBytes, shiftBytes}
 use Rattle.proving.specs.Plans.{DrawsBelow, witnessAt}
 use Rattle.ballots.specs.declared.shift.Shift.{Shift}
 
--- a matrix stands on a page as in the record at a place
+-- a matrix stands on a page at a place
 abbrev pub Paged : (page : List ℕ) (at rows n : ℕ) → Matrix → Type 0
-Paged page at rows n M = Stands page (at + 4) (pairBytes n M rows)
+Paged page at rows n M = Stands page at (pairBytes n M rows)
 
 -- the draws at a place and so many on, at a stride, but for one
 unfoldable pub sumBut : (draws : List ℕ) (at stride count but : ℕ) → ℕ
@@ -43,6 +44,11 @@ module _ (label : List ℕ) (g : Parameters) (n number : ℕ) (list : ℕ → �
   -- its proof, behind those of the entries
   unfoldable pub lineOf : (t : ℕ) → List ℕ
   lineOf t = proofBytes g (lineProver (ballotContext number (n * n + t)) draws (lineSaid t) (lineSum draws from n t) (from + 4 * (n * n) + t)) sha256 label
+
+-- the record up to its proofs
+abbrev pub bodyBytes : (label : List ℕ) → Parameters → (n number kind : ℕ) (list : ℕ → ℕ) (draws : List ℕ) (from : ℕ) → List ℕ
+bodyBytes label g n number kind list draws from =
+    BA ++ bytes2 number ++ (kind ∷ []) ++ pairBytes n (matrixOf g n list draws from) n ++ ballotProofBytes sha256 label g n number list draws from
 
 -- the first so many witnesses, modulo q
 pub record Witnessed (q n : ℕ) (draws : List ℕ) (old new a l count : ℕ) (s : List Exponent) : Type 0 where

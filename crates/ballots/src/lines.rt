@@ -30,7 +30,7 @@ fn write_line(
     draws: &[u32],
     t: usize,
 )
-    requires { ⌜ Ready g × (0 < b .n) × (b .n ≤ 8) × (t < b .n + b .n) × (16 ≤ length (now out)) × (516 ≤ length (now page)) ⌝ }
+    requires { ⌜ Ready g × (0 < b .n) × (b .n ≤ 8) × (t < b .n + b .n) × (16 ≤ length (now out)) × (512 ≤ length (now page)) ⌝ }
     requires { ⌜ DrawsBelow (g .group .q) (now draws) (b .from) (4 * (b .n * b .n) + 2 * b .n) ⌝ }
     requires { ⌜ Paged (now page) 0 (b .n) (b .n) (matrixOf (parametersOf (g .group)) (b .n) (λ k. getD (b .list) k 0) (now draws) (b .from)) ⌝ }
     ensures { λ _. ⌜ ((m : List ℕ) → Fed labelled m → now (out .exit) ≡ written (lineOf m (parametersOf (g .group)) (b .n) (b .number) (λ k. getD (b .list) k 0) (now (draws .entry)) (b .from) t) (now (out .entry))) ⌝ }
@@ -44,7 +44,7 @@ fn write_line(
     let witness = [sum; 64];
     let no_inverses = [0u32; 0];
     let claim = Claim::Line {
-        at: 4 + 8 * line.start,
+        at: 8 * line.start,
         stride: 8 * line.stride,
         count: n,
     };
@@ -68,7 +68,7 @@ pub fn write_lines(
     b: Ballot,
     draws: &[u32],
 )
-    requires { ⌜ Ready g × (0 < b .n) × (b .n ≤ 8) × (32 * b .n ≤ length (now out)) × (516 ≤ length (now page)) ⌝ }
+    requires { ⌜ Ready g × (0 < b .n) × (b .n ≤ 8) × (32 * b .n ≤ length (now out)) × (512 ≤ length (now page)) ⌝ }
     requires { ⌜ DrawsBelow (g .group .q) (now draws) (b .from) (4 * (b .n * b .n) + 2 * b .n) ⌝ }
     requires { ⌜ Paged (now page) 0 (b .n) (b .n) (matrixOf (parametersOf (g .group)) (b .n) (λ k. getD (b .list) k 0) (now draws) (b .from)) ⌝ }
     ensures { λ _. ⌜ ((m : List ℕ) → Fed labelled m → now (out .exit) ≡ written (concatBelow (b .n + b .n) (lineOf m (parametersOf (g .group)) (b .n) (b .number) (λ k. getD (b .list) k 0) (now (draws .entry)) (b .from))) (now (out .entry))) ⌝ }

@@ -2,13 +2,14 @@
 use group::Exponent;
 use group::Group;
 ghost use mathlib.Core.Path.{_≡_};
-ghost use mathlib.Core.List.{_++_};
+ghost use mathlib.Core.List.{[], _∷_, _++_};
 ghost use Prim.Native.Nat.{_+_, _*_, _^_, _≤_, _<_};
 ghost use lib.ListN.{length, getD};
 ghost use Rattle.group.specs.Arithmetic.{powMod};
 ghost use Rattle.group.specs.Elements.{parametersOf};
 ghost use Rattle.rules.specs.Bytes.{bytes2, bytes4};
 ghost use Rattle.rules.specs.Group.{paired};
+ghost use Rattle.rules.specs.Records.{BA, SH};
 ghost use Rattle.jobs.specs.Records.{opened, matrixOf, pairBytes};
 ghost use Rattle.output.specs.Written.{written};
 
@@ -58,12 +59,23 @@ pub fn write_pairs(
     }
 }
 
-// What a ballot's record starts with: its mark, its number and its pairs.
-pub fn put_front(out: &mut [u8], mark: [u8; 2], number: u32, pairs: &[u8])
-    requires { ⌜ 4 + length (now pairs) ≤ length (now out) ⌝ }
-    ensures { λ _. ⌜ now (out .exit) ≡ written (mark ++ bytes2 number ++ now (pairs .entry)) (now (out .entry)) ⌝ }
+// What a BA starts with: its mark, its number, its kind and its pairs.
+pub fn put_ballot_front(out: &mut [u8], number: u32, kind: u8, pairs: &[u8])
+    requires { ⌜ 5 + length (now pairs) ≤ length (now out) ⌝ }
+    ensures { λ _. ⌜ now (out .exit) ≡ written (BA ++ bytes2 number ++ (kind ∷ []) ++ now (pairs .entry)) (now (out .entry)) ⌝ }
 {
-    output::put_two(out, mark);
+    output::put_two(out, layout::BA);
+    output::put_number2(&mut out[2..], number);
+    output::put_byte(&mut out[4..], kind);
+    output::put_bytes(&mut out[5..], pairs);
+}
+
+// What a SH starts with: its mark, its number and its pairs.
+pub fn put_shift_front(out: &mut [u8], number: u32, pairs: &[u8])
+    requires { ⌜ 4 + length (now pairs) ≤ length (now out) ⌝ }
+    ensures { λ _. ⌜ now (out .exit) ≡ written (SH ++ bytes2 number ++ now (pairs .entry)) (now (out .entry)) ⌝ }
+{
+    output::put_two(out, layout::SH);
     output::put_number2(&mut out[2..], number);
     output::put_bytes(&mut out[4..], pairs);
 }

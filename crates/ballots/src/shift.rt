@@ -33,16 +33,16 @@ pub struct Shift {
     pub new: usize,
 }
 
-// The matrix before goes where the record at a page's start would have it, and the new one where that at 512 would.
+// The matrix before goes to a page's start, and the new one to 512.
 fn put_matrices(page: &mut [u8], g: Group, s: Shift, draws: &[u32])
-    requires { ⌜ Shifting (g .p) (g .q) s (now draws) × (length (now page) ≡ 1028) ⌝ }
-    ensures { λ _. ⌜ (length (now (page .exit)) ≡ 1028) × Paged (now (page .exit)) 0 (s .rows + 1) (s .n) (oldMatrix (parametersOf g) s (now (draws .entry))) × Paged (now (page .exit)) 512 (s .rows) (s .n) (newMatrix (parametersOf g) s (now (draws .entry))) ⌝ }
+    requires { ⌜ Shifting (g .p) (g .q) s (now draws) × (length (now page) ≡ 1024) ⌝ }
+    ensures { λ _. ⌜ (length (now (page .exit)) ≡ 1024) × Paged (now (page .exit)) 0 (s .rows + 1) (s .n) (oldMatrix (parametersOf g) s (now (draws .entry))) × Paged (now (page .exit)) 512 (s .rows) (s .n) (newMatrix (parametersOf g) s (now (draws .entry))) ⌝ }
 {
     let n = s.n;
     let before = s.before;
     let after = s.after;
-    pairs::write_pairs(&mut page[4..], g, n, s.rows + 1, before, draws, s.old);
-    pairs::write_pairs(&mut page[516..], g, n, s.rows, after, draws, s.new);
+    pairs::write_pairs(page, g, n, s.rows + 1, before, draws, s.old);
+    pairs::write_pairs(&mut page[512..], g, n, s.rows, after, draws, s.new);
 }
 
 fn write_shift_proof(
@@ -53,7 +53,7 @@ fn write_shift_proof(
     page: &[u8],
     draws: &[u32],
 )
-    requires { ⌜ Ready g × Shifting (g .group .p) (g .group .q) s (now draws) × ((s .rows + 1) * (28 + 12 * (s .rows * s .n)) ≤ length (now out)) × (1028 ≤ length (now page)) ⌝ }
+    requires { ⌜ Ready g × Shifting (g .group .p) (g .group .q) s (now draws) × ((s .rows + 1) * (28 + 12 * (s .rows * s .n)) ≤ length (now out)) × (1024 ≤ length (now page)) ⌝ }
     requires { ⌜ Paged (now page) 0 (s .rows + 1) (s .n) (oldMatrix (parametersOf (g .group)) s (now draws)) × Paged (now page) 512 (s .rows) (s .n) (newMatrix (parametersOf (g .group)) s (now draws)) ⌝ }
     ensures { λ _. ⌜ ((m : List ℕ) → Fed labelled m → now (out .exit) ≡ written (shiftProofOf m (parametersOf (g .group)) s (now (draws .entry))) (now (out .entry))) ⌝ }
 {
@@ -90,10 +90,10 @@ pub fn write_shift(out: &mut [u8], label: &[u8], g: Setup, s: Shift, draws: &[u3
 {
     let group = g.group;
     let count = s.rows * s.n;
-    let mut page = [0u8; 1028];
+    let mut page = [0u8; 1024];
     put_matrices(&mut page, group, s, draws);
-    let end = 516 + 8 * count;
-    pairs::put_front(out, layout::SH, s.number, &page[516..end]);
+    let end = 512 + 8 * count;
+    pairs::put_shift_front(out, s.number, &page[512..end]);
     let labelled = Hasher::new().update(label);
     let at = 4 + 8 * count;
     write_shift_proof(&mut out[at..], labelled, g, s, &page, draws);

@@ -1,52 +1,48 @@
 -- A sheet column by column.
 use Prim.Native.Nat.{ℕ, _+_, _*_, _-_, _%_, _<_}
 use mathlib.Core.Path.{_≡_, refl, ap, _∙_}
+use mathlib.Core.Bool.{cond}
 use mathlib.Core.List.{List, [], _∷_, _++_, append-assoc}
 use native.Mathlib.Omega.{arith}
-use borrow.Author.Tests.{ne-eqb}
 use borrow.Rule.Slice.PartMut.{midOf, putMid}
 use lib.ListN.{length, getD, length-append}
 use Rattle.numbers.specs.Below.{concatBelow, sumBelow}
 use Rattle.numbers.proofs.Blocks.{blocks-same, length-blocks}
 use Rattle.numbers.proofs.Sums.{sum-same}
 use Rattle.rules.specs.Bytes.{bytes2, bytes4}
-use Rattle.rules.specs.Records.{RT}
-use Rattle.jobs.specs.Records.{secretAt, sheetColumn, sheetBytes}
+use Rattle.rules.specs.Records.{RT, isCounted}
+use Rattle.jobs.specs.Records.{columnSum, sheetColumn, sheetBytes}
 use Rattle.output.specs.Written.{written}
 use Rattle.output.proofs.Laws.{more, blocks-more}
-use Rattle.ballots.specs.Parts.{sumBut}
 
-pub tally-is : (draws : List ℕ) (from stride k : ℕ) → sumBut draws from stride k k ≡ sumBelow k (λ i. getD draws (from + stride * i) 0)
-unfolding sumBut
-tally-is draws from stride k = sum-same k _ _ (λ i h. rw (ne-eqb i k (λ e. omega arith)))
+-- a column's secrets, as the code goes through them: ahead of ballot b's record are so many draws of its round
+pub column-is : (q n K : ℕ) (kind : ℕ → ℕ) (draws : List ℕ) (start : ℕ) (ahead : ℕ → ℕ) (i : ℕ) →
+    sumBelow K (λ b. cond (isCounted (kind b)) (getD draws (start + i + ahead b) 0) 0) ≡ columnSum q n K kind draws (λ b. start + ahead b) i
+column-is q n K kind draws start ahead i =
+    sum-same K _ _ (λ b h.
+    let e : start + i + ahead b ≡ start + ahead b + (0 * n + i) = omega arith in
+    ap (λ (d : ℕ). cond (isCounted (kind b)) (getD draws d 0) 0) e)
 
-module _ (q n K : ℕ) (draws : List ℕ) (from each m out : ℕ) (counts : List ℕ) where
-  -- a sheet up to its i-th column
-  abbrev pub sheetTo : (i : ℕ) → List ℕ
-  sheetTo i = RT ++ ((m + 1) ∷ out ∷ []) ++ concatBelow i (sheetColumn q n K draws from each counts)
+module _ (q n K : ℕ) (kind : ℕ → ℕ) (draws : List ℕ) (from : ℕ → ℕ) (counts : List ℕ) where
+  -- the first so many columns
+  abbrev pub columnsTo : (i : ℕ) → List ℕ
+  columnsTo i = concatBelow i (sheetColumn q n K kind draws from counts)
 
-  pub sheet-none : (o : List ℕ) → written (RT ++ ((m + 1) ∷ out ∷ [])) o ≡ written (sheetTo 0) o
-  unfolding concatBelow
-  sheet-none o = refl
+  -- behind the four bytes that a sheet starts with
+  pub columns-more : (front : List ℕ) (i a s : ℕ) (o l x : List ℕ) → length front ≡ 4 → a ≡ 4 + 6 * i → s ≡ columnSum q n K kind draws from i % q →
+      l ≡ written (front ++ columnsTo i) o → x ≡ written (bytes2 (getD counts i 0) ++ bytes4 s) (midOf a (length l - a) l) →
+      putMid a (length l - a) l x ≡ written (front ++ columnsTo (i + 1)) o
+  columns-more front i a s o l x four ea es el ex =
+      let b = length-blocks i 6 (sheetColumn q n K kind draws from counts) (λ i h. refl) in
+      let long : length (front ++ columnsTo i) ≡ a = simp length-append (omega arith) in
+      more (front ++ columnsTo i) _ o l x a long el (rw es at ex) ∙ rw (blocks-more (sheetColumn q n K kind draws from counts) i, append-assoc)
 
-  -- the sum of a column's secrets, as the code goes through them
-  secrets-are : (i : ℕ) → sumBelow K (λ k. getD draws (from + i + each * k) 0) ≡ sumBelow K (λ k. secretAt n draws (from + k * each) 0 i)
-  secrets-are i = sum-same K _ _ (λ k h. let e : from + i + each * k ≡ from + k * each + (0 * n + i) = omega arith in ap (λ (d : ℕ). getD draws d 0) e)
-
-  pub sheet-more : (i a : ℕ) (o l x : List ℕ) → a ≡ 4 + 6 * i → l ≡ written (sheetTo i) o →
-      x ≡ written (bytes2 (getD counts i 0) ++ bytes4 (sumBelow K (λ k. getD draws (from + i + each * k) 0) % q)) (midOf a (length l - a) l) →
-      putMid a (length l - a) l x ≡ written (sheetTo (i + 1)) o
-  sheet-more i a o l x ea el ex =
-      let b = length-blocks i 6 (sheetColumn q n K draws from each counts) (λ i h. refl) in
-      let long : length (sheetTo i) ≡ a = simp length-append (omega arith) in
-      more (sheetTo i) _ o l x a long el (rw (secrets-are i) at ex) ∙ rw (blocks-more (sheetColumn q n K draws from each counts) i, append-assoc)
-
-  pub sheet-whole : sheetTo n ≡ sheetBytes q n K draws from each m out counts
+  pub sheet-whole : (m out round : ℕ) → round ≡ m + 1 → RT ++ (round ∷ out ∷ []) ++ columnsTo n ≡ sheetBytes q n K kind draws from m out counts
   unfolding sheetBytes
-  sheet-whole = refl
+  sheet-whole m out round e = rw e
 
   -- of the counts those of the n processes alone are written
-  pub sheet-same : (counts' : List ℕ) → ((i : ℕ) → i < n → getD counts i 0 ≡ getD counts' i 0) →
-      sheetBytes q n K draws from each m out counts ≡ sheetBytes q n K draws from each m out counts'
+  pub sheet-same : (m out : ℕ) (counts' : List ℕ) → ((i : ℕ) → i < n → getD counts i 0 ≡ getD counts' i 0) →
+      sheetBytes q n K kind draws from m out counts ≡ sheetBytes q n K kind draws from m out counts'
   unfolding sheetBytes
-  sheet-same counts' h = ap (λ (l : List ℕ). RT ++ ((m + 1) ∷ out ∷ []) ++ l) (blocks-same n _ _ (λ i l. rw (h i l)))
+  sheet-same m out counts' h = ap (λ (l : List ℕ). RT ++ ((m + 1) ∷ out ∷ []) ++ l) (blocks-same n _ _ (λ i l. rw (h i l)))

@@ -13,11 +13,11 @@ use Rattle.numbers.proofs.Tests.{by-cases}
 use Rattle.group.specs.Elements.{Parameters}
 use Rattle.rules.specs.Answers.{withZeros}
 use Rattle.rules.specs.Count.{Standing, Result, start, next, leaves, closes, isRanking, countsOf, countFrom, plainCount}
-use Rattle.jobs.specs.Job.{Job, rankingOf, plainResult, remaining, rowOf}
+use Rattle.jobs.specs.Job.{Job, rankingOf, countedRankings, plainResult, remaining, rowOf}
 use Rattle.jobs.specs.Board.{recordBytes, roundsFrom, jobSheet}
 use Rattle.rules.proofs.Leaving.{In, rounds-over}
 use Rattle.boards.specs.Parts.{recordsOf, roundBytes}
-use Rattle.jobs.proofs.Counting.{rankings, countsIn, closesIn, leavesIn, Reached, first-reached, next-reached, plain-closed, leaves-still-in, place-in}
+use Rattle.jobs.proofs.Counting.{countsIn, closesIn, leavesIn, Reached, first-reached, next-reached, plain-closed, leaves-still-in, place-in}
 
 -- the order of going out only grows
 prefix : (n : ℕ) (rankings : List (List ℕ)) (fuel : ℕ) (st : Standing) → (rest : List ℕ) × (countFrom n rankings fuel st .order ≡ st .gone ++ rest)
@@ -66,7 +66,7 @@ module _ (hash : List ℕ → List ℕ) (job : Job) (g : Parameters) (ranked : (
     split : (rest : List ℕ) × (o ≡ r .st .gone ++ rest)
     unfolding withZeros
     split =
-        let w = prefix (job .n) (rankings job) (suc (job .n - suc j)) (r .st) in
+        let w = prefix (job .n) (countedRankings job) (suc (job .n - suc j)) (r .st) in
         let e : R .order ≡ r .st .gone ++ w .0 = sym (ap (λ (x : Result). x .order) (r .count .plain)) ∙ w .1 in
         (w .0 ++ replicate (8 - length (R .order)) 0, rw e (append-assoc (r .st .gone) (w .0) _))
 
@@ -106,7 +106,7 @@ module _ (hash : List ℕ → List ℕ) (job : Job) (g : Parameters) (ranked : (
       out-going : (getD o j 0 ≡ leaving) × (take (suc j) o ≡ r .st .gone ++ (leaving ∷ []))
       unfolding withZeros
       out-going =
-          let w = prefix (job .n) (rankings job) (job .n - suc j) (next (job .n) (r .st) (countsIn job (r .st))) in
+          let w = prefix (job .n) (countedRankings job) (job .n - suc j) (next (job .n) (r .st) (countsIn job (r .st))) in
           let eo : R .order ≡ (r .st .gone ++ (leaving ∷ [])) ++ w .0 = sym (ap (λ (x : Result). x .order) (next-count .plain)) ∙ w .1 in
           let zeros : List ℕ = replicate (8 - length (R .order)) 0 in
           let s : o ≡ (r .st .gone ++ (leaving ∷ [])) ++ (w .0 ++ zeros) = ap (λ (x : List ℕ). x ++ zeros) eo ∙ append-assoc (r .st .gone ++ (leaving ∷ [])) (w .0) zeros in
@@ -141,7 +141,7 @@ module _ (hash : List ℕ → List ℕ) (job : Job) (g : Parameters) (ranked : (
         by-cases closing (λ e. e)
         (λ e.
         let n = next-count e in
-        absurd (omega (arith, rw (n .plain, n .sheeted) at (rounds-over (job .n) (rankings job) (job .n - suc j) (next (job .n) (r .st) (countsIn job (r .st)))))))
+        absurd (omega (arith, rw (n .plain, n .sheeted) at (rounds-over (job .n) (countedRankings job) (job .n - suc j) (next (job .n) (r .st) (countsIn job (r .st)))))))
 
     not-last : j + 1 < R .rounds → closing ≡ false
     not-last h = by-cases closing (λ e. absurd (omega (arith, ap (λ (x : Result). x .rounds) (plain-closed job ranked (r .count) e), r .count .sheeted))) (λ e. e)
@@ -149,7 +149,7 @@ module _ (hash : List ℕ → List ℕ) (job : Job) (g : Parameters) (ranked : (
   module _ (many : 2 ≤ job .n) where
     some : 0 < R .rounds
     unfolding plainCount
-    some = rounds-over (job .n) (rankings job) (job .n) start
+    some = rounds-over (job .n) (countedRankings job) (job .n) start
 
     walk : (j : ℕ) → j < R .rounds → At j
     unfolding concatBelow

@@ -25,7 +25,7 @@ fn put_group(out: &mut [u8], g: Group, counter: u8)
 
 pub fn write_header(out: &mut [u8], head: Head, label: &[u8])
     requires { ⌜ (head .n < 256) × (head .k < 65536) × (length (now label) ≡ 32) × (headerLength ≤ length (now out)) ⌝ }
-    ensures { λ _. ⌜ now (out .exit) ≡ written (headerBytes sha256 (boardJob head (now (label .entry)) [] []) (headGroup head)) (now (out .entry)) ⌝ }
+    ensures { λ _. ⌜ now (out .exit) ≡ written (headerBytes sha256 (boardJob head (now (label .entry)) [] [] []) (headGroup head)) (now (out .entry)) ⌝ }
 {
     let n = numbers::low(head.n);
     let k = numbers::low16(head.k);

@@ -4,28 +4,30 @@ use crate::header;
 use crate::records;
 use crate::records::RoundPlan;
 use crate::sheet;
-use crate::sheet::SheetPlan;
 use count::Count;
 use plain::rankings;
 use plain::rounds;
 ghost use mathlib.Core.Path.{_≡_};
 ghost use mathlib.Core.List.{_++_};
-ghost use Prim.Native.Nat.{suc, _+_, _*_, _≤_, _<_};
-ghost use lib.ListN.{length};
-ghost use Rattle.numbers.specs.Below.{concatBelow};
+ghost use Prim.Native.Nat.{_+_, _≤_, _<_};
+ghost use lib.ListN.{length, getD};
+ghost use Rattle.numbers.specs.Below.{sumBelow, concatBelow};
 ghost use Rattle.sha256.specs.Message.{sha256};
 ghost use Rattle.rules.specs.Records.{headerLength, recordLength, sheetLength};
-ghost use Rattle.jobs.specs.Job.{roundDraws, roundAt};
 ghost use Rattle.jobs.specs.Board.{headerBytes};
 ghost use Rattle.output.specs.Written.{written};
 ghost use Rattle.statements.specs.Values.{Ready};
-ghost use Rattle.boards.specs.Parts.{boardJob, headGroup, RoundPlanned, Writable, Sheeted, roundBytes};
+ghost use Rattle.boards.specs.Parts.{boardJob, headGroup, bytesBefore, RoundReady, Planned, Writable, Sheeted, planBytes, roundBytes};
 
-// Round m of a board whose processes go out in an order; its draws start at a place.
-fn plan_of(head: Head, order: [u8; 8], m: usize, from: usize) -> RoundPlan
-    requires { ⌜ (head .n ≤ 8) × (m < head .n) × (head .k ≤ 1000) × (from ≡ roundDraws (head .n) (head .k) m) ⌝ }
-    ensures { λ r. ⌜ (r .m ≡ m) × RoundPlanned (head .n) (head .k) order r ⌝ }
+// Round m of a count that has ended; the draws of the round before it and its own start at two places.
+fn plan_of(count: Count, m: usize, old: usize, new: usize) -> RoundPlan
+    requires { ⌜ m < 8 ⌝ }
+    ensures { λ r. ⌜ Planned count m old new r ⌝ }
 {
+    let order = count.gone.order;
+    let sheets = count.sheets;
+    let sheet = sheets[m];
+    let out = order[m];
     let gone = rankings::first_of(order, m);
     if m == 0 {
         return RoundPlan {
@@ -33,19 +35,23 @@ fn plan_of(head: Head, order: [u8; 8], m: usize, from: usize) -> RoundPlan
             before: gone,
             gone,
             a: 0,
-            old: 0,
-            new: from,
+            old,
+            new,
+            out,
+            sheet,
         };
     }
-    let last = m - 1;
-    let before = rankings::first_of(order, last);
+    let before = rankings::first_of(order, m - 1);
+    let a = order[m - 1];
     RoundPlan {
         m,
         before,
         gone,
-        a: order[last],
-        old: from - head.k * rounds::record_draws(head.n, last),
-        new: from,
+        a,
+        old,
+        new,
+        out,
+        sheet,
     }
 }
 
@@ -55,29 +61,15 @@ fn write_round(
     label: &[u8],
     head: Head,
     rankings: &[u8],
+    kinds: &[u8],
     draws: &[u32],
-    count: Count,
     plan: RoundPlan,
 )
-    requires { ⌜ Ready (head .setup) × Writable (boardJob head (now label) (now rankings) (now draws)) (count .gone .order) (suc (plan .m)) × Sheeted (boardJob head (now label) (now rankings) (now draws)) count × (plan .m ≤ count .gone .outs) ⌝ }
-    requires { ⌜ RoundPlanned (head .n) (head .k) (count .gone .order) plan × (head .k * recordLength (head .n) (plan .m) + sheetLength (head .n) ≤ length (now out)) ⌝ }
-    ensures { λ _. ⌜ now (out .exit) ≡ written (roundBytes sha256 (boardJob head (now (label .entry)) (now (rankings .entry)) (now (draws .entry))) (headGroup head) (count .gone .order) (plan .m)) (now (out .entry)) ⌝ }
+    requires { ⌜ Ready (head .setup) × RoundReady (boardJob head (now label) (now rankings) (now kinds) (now draws)) plan × (sumBelow (head .k) (λ i. recordLength (head .n) (getD (now kinds) i 0) (plan .m)) + sheetLength (head .n) ≤ length (now out)) ⌝ }
+    ensures { λ _. ⌜ now (out .exit) ≡ written (planBytes sha256 (boardJob head (now (label .entry)) (now (rankings .entry)) (now (kinds .entry)) (now (draws .entry))) (headGroup head) plan) (now (out .entry)) ⌝ }
 {
-    let m = plan.m;
-    let gone = count.gone;
-    let order = gone.order;
-    let sheets = count.sheets;
-    let sheet = sheets[m];
-    records::write_records(out, label, head, rankings, draws, plan);
-    let at = head.k * layout::record_length(head.n, m);
-    let stride = rounds::record_draws(head.n, m);
-    let sheet_plan = SheetPlan {
-        m: numbers::low(m),
-        gone: order[m],
-        from: plan.new,
-        stride,
-    };
-    sheet::write_sheet(&mut out[at..], head, sheet_plan, sheet, draws);
+    let at = records::write_records(out, label, head, rankings, kinds, draws, plan);
+    sheet::write_sheet(&mut out[at..], head, kinds, draws, plan);
 }
 
 fn write_rounds(
@@ -85,24 +77,26 @@ fn write_rounds(
     label: &[u8],
     head: Head,
     rankings: &[u8],
+    kinds: &[u8],
     draws: &[u32],
     count: Count,
 )
-    requires { ⌜ Ready (head .setup) × Writable (boardJob head (now label) (now rankings) (now draws)) (count .gone .order) (count .gone .outs + 1) × Sheeted (boardJob head (now label) (now rankings) (now draws)) count × (roundAt (head .n) (head .k) (count .gone .outs + 1) ≤ length (now out) + headerLength) ⌝ }
-    ensures { λ _. ⌜ now (out .exit) ≡ written (concatBelow (count .gone .outs + 1) (roundBytes sha256 (boardJob head (now (label .entry)) (now (rankings .entry)) (now (draws .entry))) (headGroup head) (count .gone .order))) (now (out .entry)) ⌝ }
+    requires { ⌜ Ready (head .setup) × Writable (boardJob head (now label) (now rankings) (now kinds) (now draws)) (count .gone .order) (count .gone .outs + 1) × Sheeted (boardJob head (now label) (now rankings) (now kinds) (now draws)) count × (bytesBefore (boardJob head (now label) (now rankings) (now kinds) (now draws)) (count .gone .outs + 1) ≤ length (now out) + headerLength) ⌝ }
+    ensures { λ _. ⌜ now (out .exit) ≡ written (concatBelow (count .gone .outs + 1) (roundBytes sha256 (boardJob head (now (label .entry)) (now (rankings .entry)) (now (kinds .entry)) (now (draws .entry))) (headGroup head) (count .gone .order))) (now (out .entry)) ⌝ }
 {
     let n = head.n;
     let k = head.k;
-    let gone = count.gone;
-    let order = gone.order;
-    let end = gone.outs + 1;
+    let end = count.gone.outs + 1;
     let mut at = 0;
-    let mut from = 0;
+    let mut old = 0;
+    let mut new = 0;
     for m in 0..end {
-        let plan = plan_of(head, order, m, from);
-        write_round(&mut out[at..], label, head, rankings, draws, count, plan);
-        at += k * layout::record_length(n, m) + layout::sheet_length(n);
-        from += k * rounds::record_draws(n, m);
+        let plan = plan_of(count, m, old, new);
+        write_round(&mut out[at..], label, head, rankings, kinds, draws, plan);
+        let round = rounds::measure_round(kinds, n, k, m);
+        at += round.length + layout::sheet_length(n);
+        old = new;
+        new += round.needed;
     }
 }
 
@@ -112,12 +106,13 @@ pub fn write_board(
     label: &[u8],
     head: Head,
     rankings: &[u8],
+    kinds: &[u8],
     draws: &[u32],
     count: Count,
 )
-    requires { ⌜ Ready (head .setup) × Writable (boardJob head (now label) (now rankings) (now draws)) (count .gone .order) (count .gone .outs + 1) × Sheeted (boardJob head (now label) (now rankings) (now draws)) count ⌝ }
-    requires { ⌜ (length (now label) ≡ 32) × (headerLength ≤ length (now out)) × (roundAt (head .n) (head .k) (count .gone .outs + 1) ≤ length (now out)) ⌝ }
-    ensures { λ _. ⌜ now (out .exit) ≡ written (headerBytes sha256 (boardJob head (now (label .entry)) (now (rankings .entry)) (now (draws .entry))) (headGroup head) ++ concatBelow (count .gone .outs + 1) (roundBytes sha256 (boardJob head (now (label .entry)) (now (rankings .entry)) (now (draws .entry))) (headGroup head) (count .gone .order))) (now (out .entry)) ⌝ }
+    requires { ⌜ Ready (head .setup) × Writable (boardJob head (now label) (now rankings) (now kinds) (now draws)) (count .gone .order) (count .gone .outs + 1) × Sheeted (boardJob head (now label) (now rankings) (now kinds) (now draws)) count ⌝ }
+    requires { ⌜ (length (now label) ≡ 32) × (headerLength ≤ length (now out)) × (bytesBefore (boardJob head (now label) (now rankings) (now kinds) (now draws)) (count .gone .outs + 1) ≤ length (now out)) ⌝ }
+    ensures { λ _. ⌜ now (out .exit) ≡ written (headerBytes sha256 (boardJob head (now (label .entry)) (now (rankings .entry)) (now (kinds .entry)) (now (draws .entry))) (headGroup head) ++ concatBelow (count .gone .outs + 1) (roundBytes sha256 (boardJob head (now (label .entry)) (now (rankings .entry)) (now (kinds .entry)) (now (draws .entry))) (headGroup head) (count .gone .order))) (now (out .entry)) ⌝ }
 {
     header::write_header(out, head, label);
     write_rounds(
@@ -125,6 +120,7 @@ pub fn write_board(
         label,
         head,
         rankings,
+        kinds,
         draws,
         count,
     );

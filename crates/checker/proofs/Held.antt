@@ -22,7 +22,7 @@ use types.Kit.{Given, Item, Goal, Post, Seq, Sq, Step, step, prop, atRet, regoal
 use types.Run.{Opds, stop, from, of-opd, assigns, land}
 use denote.RattleType.{RattleType, Denots, Valss, mirs, flat, owns}
 use denote.Laws.{Is, Ises, Are, Tells, Tellss, Spells, valss, Typed, Lawful, Lawfuls, Makess, all-typed, owns-make, shows}
-use denote.Plain.{uint-tells, uint-lawful}
+use denote.Plain.{uint-tells, uint-lawful, uint-makes}
 use denote.Builtin.{u8, usize}
 use denote.Ref.{NamedLft}
 use denote.Shadow.{shadow, Pure, makes-shadow}
@@ -126,6 +126,23 @@ Placed ps res f i j is ld =
     (typeOf F₀ 1 ≡ T′.mir (named 0)) × (typeOf F₀ i ≡ boardTy) × (typeOf F₀ j ≡ tyInt w64) × (holds F₀ 1 ≡ some (some (T′.lowered d))) × (holds F₀ i ≡ some none) × (holds (put-in F₀ i (boardVal d)) 1 ≡ some (some (T′.lowered d)))
     × (holds (put-in F₀ i (boardVal d)) j ≡ some none) × All-hold F₂ (i ∷ j ∷ is) (boardVal d ∷ vint w64 (d .next) ∷ vs) × (holds F₂ 0 ≡ some none)
     × ((u : Val) → (holds (put-in F₂ 0 u) 0 ≡ some (some u)) × (Typed (typeAt res κs .mir) (u ∷ []) → Holds (hasTy (typeOf F₂ 0) u) × WT u)))
+
+-- ---- a function of the board, a place and other data, which makes a reading and calls another with it
+-- its body, and its locals: 1 is the board, 2 the place, i takes the reading, and the others passed on are is
+abbrev pub Makes : Fn → (s g : Name) (i : ℕ) → List ℕ → Type 0
+Makes f s g i is =
+    f .body ≡ seq (call s (map (λ k. copy (place k [])) (1 ∷ 2 ∷ [])) (place i [])) (seq (call g (map (λ k. copy (place k [])) (i ∷ is)) (place 0 [])) return)
+
+abbrev pub Made : (ps : List (Slot 1)) (res : Slot 1) → Fn → (i : ℕ) → List ℕ → ((κs : Lfts 1) → Laids (typesAt ps κs)) → Type 0
+Made ps res f i is ld =
+    (κs : Lfts 1) (d : Reading) (a : Denots (typesAt ps κs)) →
+    let vs : List Val = flat (typesAt ps κs) (vals (typesAt ps κs) (ld κs) a) in
+    let us : List Val = boardVal d ∷ vint w64 (d .next) ∷ vs in (Typed (mirs (typesAt (At ps res .params) κs)) us → Fits (f .locals) us)
+    × ((bs : Blocks (f .locals)) →
+    let F₀ : Frame = record { ls = f .locals; bs = bs; cs = entry (f .locals) us } in
+    let F₁ : Frame = put-in F₀ i (T′.lowered d) in
+    (typeOf F₀ i ≡ T′.mir erased) × All-hold F₀ (1 ∷ 2 ∷ []) (boardVal d ∷ vint w64 (d .next) ∷ []) × (holds F₀ i ≡ some none) × All-hold F₁ (i ∷ is) (T′.lowered d ∷ vs) × (holds F₁ 0 ≡ some none)
+    × ((u : Val) → (holds (put-in F₁ 0 u) 0 ≡ some (some u)) × (Typed (typeAt res κs .mir) (u ∷ []) → Holds (hasTy (typeOf F₁ 0) u) × WT u)))
 
 module _ {M : Type 1} (𝓤 : URA M) (H : Heap 𝓤) (A : Atoms 𝓤) (W : Given 𝓤 H A) where
   abbrev all-lawful : (Rs : List RattleType) → Laids Rs → Lawfuls 𝓤 H A Rs
@@ -270,7 +287,39 @@ module _ {M : Type 1} (𝓤 : URA M) (H : Heap 𝓤) (A : Atoms 𝓤) (W : Given
           land ! (from ! (stop !)) (into ! 2 F₂ 0 refl (p .8) (p .9 u .1 (lr κs .lawful 𝓤 H A W .typed r (u ∷ []) is′))) $ move ! (2 ∷ []) $ leaves ! (put-in F₂ 0 u) (p .9 u .0) $
           move ! (1 ∷ 0 ∷ []) $ ends ! (Of ps res) c κs qs a z u r (s .0) (e .0) (e .2) x))))))
 
--- ---- the two, for a function's routine
+    -- it asks a fact, of which the other's follows, and says what the other says
+    abbrev pub Alike : Spec 𝓤 (At ps res) → Spec 𝓤 (Of ps res) → Type 2
+    Alike c c′ = (κs : Lfts 1) (d : Reading) (a : Denots (typesAt ps κs)) (z : c κs (d .board, (d .next, a)) .ghost) → Silent (At ps res) κs (d .board, (d .next, a)) × (φ : Type 0)
+        × (c κs (d .board, (d .next, a)) .requires z ≡ fact 𝓤 φ) × (z′ : c′ κs (d, a) .ghost) × (φ → ent 𝓤 (emp 𝓤) (c′ κs (d, a) .requires z′)) × (θ : typeAt res κs .Denot → Type 0)
+        × ((r : typeAt res κs .Denot) → (c′ κs (d, a) .ensures z′ r ≡ Said (Of ps res) κs (d, a) (θ r)) × (c κs (d .board, (d .next, a)) .ensures z r ≡ Said (At ps res) κs (d .board, (d .next, a)) (θ r)))
+
+    -- the reading is that of the board and the place
+    abbrev pub Starting : Spec 𝓤 (At [] (plain ReadingAt)) → Type 2
+    Starting c = (κs : Lfts 1) (d : Reading) → (z : c κs (d .board, (d .next, tt)) .ghost) × ent 𝓤 (emp 𝓤) (c κs (d .board, (d .next, tt)) .requires z)
+        × ((m : Reading) → c κs (d .board, (d .next, tt)) .ensures z m ≡ Said (At [] (plain ReadingAt)) κs (d .board, (d .next, tt)) ((m .board ≡ d .board) × (m .next ≡ d .next)))
+
+    module _ (c : Spec 𝓤 (At ps res)) (c₀ : Spec 𝓤 (At [] (plain ReadingAt))) (c′ : Spec 𝓤 (Of ps res)) (C : Calls 𝓤 H) (Λ : Loops 𝓤 H) (fm : FmC 𝓤 H (W .laws) C) (f : Fn) (s g : Name) (i : ℕ) (is : List ℕ)
+        (ld : (κs : Lfts 1) → Laids (typesAt ps κs)) (lr : (κs : Lfts 1) → Laid (typeAt res κs)) (mk : (κs : Lfts 1) → Makess 𝓤 H A (typesAt ps κs) (Ises (typesAt ps κs))) where
+      hands-in : Makes f s g i is → Made ps res f i is ld → Alike c c′ → Starting c₀ → Meets 𝓤 H A (At [] (plain ReadingAt)) (C s) c₀ → Meets 𝓤 H A (Of ps res) (C g) c′ → Meets 𝓤 H A (At ps res) (WpFn 𝓤 H C Λ f) c
+      hands-in body made alike starting starts known = enters (At ps res) c (WpFn 𝓤 H C Λ f) (λ κs. (board-laid κs, (usize-laid, ld κs))) (λ κs qs a z are typed.
+          let d : Reading = record { board = a .0; next = a .1 .0 } in
+          let l = alike κs d (a .1 .1) z in
+          let n = starting κs d in
+          let us : List Val = boardVal d ∷ vint w64 (d .next) ∷ flat (typesAt ps κs) (vals (typesAt ps κs) (ld κs) (a .1 .1)) in
+          rewrite ! 2 (λ (P : SProp 𝓤). raw P) (l .2) refl $ move ! (2 ∷ []) $ heard ! (l .1) (λ asked. begins ! f us (Ended (At ps res) c κs qs a z) (made κs d (a .1 .1) .0 typed) (λ bs.
+          let F₀ : Frame = record { ls = f .locals; bs = bs; cs = entry (f .locals) us } in
+          let F₁ : Frame = put-in F₀ i (T′.lowered d) in
+          let p = made κs d (a .1 .1) .1 bs in
+          regoal ! (λ (b : Body). runs C Λ (envOf F₀) b (atRet (envOf F₀) (Ended (At ps res) c κs qs a z))) body refl $ move ! (2 ∷ []) $ fsplit ! $ keep ! (3 ∷ 0 ∷ 2 ∷ []) $
+          -- [the token; what the board owns; the locals]
+          told-reading _ _ ! fm c₀ starts κs qs (board-laid κs, (usize-laid, tt)) (d .board, (d .next, tt)) (n .0) (uint-makes 𝓤 H A W w64, tt) (are .1 .0, tt) (n .1) d (n .2) (copies ! 1 F₀ (1 ∷ 2 ∷ []) _ refl (p .1)) (λ is₀.
+          land ! (from ! (stop !)) (into ! 2 F₀ i refl (p .2) (subst (λ (σ : Ty). Holds (hasTy σ (T′.lowered d)) × WT (T′.lowered d)) (sym (p .0)) (reading-typed 𝓤 H A W κs d is₀))) $
+          -- [the token; what the reading owns; the locals]
+          told _ ps res ! fm c′ known κs qs (reading-laid κs, ld κs) (lr κs) (d, a .1 .1) (l .3) (mk κs) (are .1 .1) (l .4 asked) (l .5) (λ r. l .6 r .0) (copies ! 1 F₁ (i ∷ is) _ refl (p .3)) (λ r x is′.
+          land ! (from ! (stop !)) (into ! 2 F₁ 0 refl (p .4) (p .5 (lr κs .val r) .1 (lr κs .lawful 𝓤 H A W .typed r (lr κs .val r ∷ []) is′))) $ move ! (2 ∷ []) $ leaves ! (put-in F₁ 0 (lr κs .val r)) (p .5 (lr κs .val r) .0) $
+          ends ! (At ps res) c κs qs a z (lr κs .val r) r (l .0) (l .5 r) (l .6 r .1) x)))))
+
+-- ---- the three, for a function's routine
 module _ {M : Type 1} (𝓤 : URA M) (H : Heap 𝓤) (𝓜 : Model 𝓤 H) (𝓖 : GhostRules 𝓤 H) (𝓡 : Running 𝓤 H 𝓜) (γ : Routines) (k : Name) (f : Fn) (closed : Closed 𝓤 H (tables 𝓤 H 𝓜 𝓡 γ .C) (tables 𝓤 H 𝓜 𝓡 γ .Λ) k f) where
   abbrev C : Calls 𝓤 H
   C = tables 𝓤 H 𝓜 𝓡 γ .C
@@ -290,3 +339,11 @@ module _ {M : Type 1} (𝓤 : URA M) (H : Heap 𝓤) (𝓜 : Model 𝓤 H) (𝓖
   passes-on ps res c c′ g ρ e met i j is ld lr body placed same =
       entered 𝓤 H (tripleOf 𝓤 H (𝓖 .A) (Of ps res) c) C (tables 𝓤 H 𝓜 𝓡 γ .Λ) k f closed (hands-on 𝓤 H (𝓖 .A) W ps res c c′ C (tables 𝓤 H 𝓜 𝓡 γ .Λ) (fmOf 𝓤 H (W .laws) (tablesOf 𝓤 H 𝓜 (tables 𝓤 H 𝓜 𝓡 γ))) f g i j is ld lr body placed same
       (cited 𝓤 H (tripleOf 𝓤 H (𝓖 .A) (At ps res) c′) 𝓜 𝓡 γ g ρ e met))
+
+  pub makes-on : (ps : List (Slot 1)) (res : Slot 1) (c : Spec 𝓤 (At ps res)) (c₀ : Spec 𝓤 (At [] (plain ReadingAt))) (c′ : Spec 𝓤 (Of ps res)) (s g : Name) (σ ρ : Routine) → γ s ≡ σ → γ g ≡ ρ →
+      Meets 𝓤 H (𝓖 .A) (At [] (plain ReadingAt)) (𝓡 .run σ) c₀ → Meets 𝓤 H (𝓖 .A) (Of ps res) (𝓡 .run ρ) c′ → (i : ℕ) (is : List ℕ) (ld : (κs : Lfts 1) → Laids (typesAt ps κs)) (lr : (κs : Lfts 1) → Laid (typeAt res κs)) →
+      ((κs : Lfts 1) → Makess 𝓤 H (𝓖 .A) (typesAt ps κs) (Ises (typesAt ps κs))) → Makes f s g i is → Made ps res f i is ld → Alike 𝓤 H (𝓖 .A) W ps res c c′ → Starting 𝓤 H (𝓖 .A) W ps res c₀ → Meets 𝓤 H (𝓖 .A) (At ps res) (C k) c
+  unfolding tablesOf
+  makes-on ps res c c₀ c′ s g σ ρ es eg starts known i is ld lr mk body made alike starting =
+      entered 𝓤 H (tripleOf 𝓤 H (𝓖 .A) (At ps res) c) C (tables 𝓤 H 𝓜 𝓡 γ .Λ) k f closed (hands-in 𝓤 H (𝓖 .A) W ps res c c₀ c′ C (tables 𝓤 H 𝓜 𝓡 γ .Λ) (fmOf 𝓤 H (W .laws) (tablesOf 𝓤 H 𝓜 (tables 𝓤 H 𝓜 𝓡 γ))) f s g i is ld lr mk body made alike starting
+      (cited 𝓤 H (tripleOf 𝓤 H (𝓖 .A) (At [] (plain ReadingAt)) c₀) 𝓜 𝓡 γ s σ es starts) (cited 𝓤 H (tripleOf 𝓤 H (𝓖 .A) (Of ps res) c′) 𝓜 𝓡 γ g ρ eg known))

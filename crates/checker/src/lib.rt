@@ -1,16 +1,20 @@
 // The checker of a board: the rounds in order, and the verdict.
 use count::Count;
+use frames::Fault;
 use header::Head;
 use header::HeaderRead;
+use records::Passed;
+use round::RecordsRead;
 use round::Round;
 use round::RoundOutcome;
 use round::RoundRead;
+use round::Walk;
 use rules::Answer;
 use rules::Checked;
 use rules::Model;
 use rules::Refusal;
 ghost use mathlib.Core.Path.{_≡_};
-ghost use Prim.Native.Nat.{_+_};
+ghost use Prim.Native.Nat.{_+_, _<_};
 ghost use lib.ListN.{replicate};
 ghost use Rattle.sha256.specs.Message.{sha256};
 ghost use Rattle.rules.specs.Records.{headerLength};
@@ -20,8 +24,9 @@ ghost use Rattle.rules.specs.Check.{accepted, refused, checkFrom, checkModel, c
 ghost use Rattle.rules.specs.Answers.{refusalNumber, verdictOf, orderOf};
 ghost use Rattle.count.specs.State.{standingOf, Kept};
 ghost use Rattle.header.specs.Heads.{headOf, HeaderKnown, HeaderReads};
-ghost use Rattle.round.specs.Rounds.{Begins};
-ghost use Rattle.round.specs.Outcomes.{Rounded};
+ghost use Rattle.round.specs.Rounds.{Begins, Later};
+ghost use Rattle.round.specs.Walks.{Walked, RecordPasses};
+ghost use Rattle.round.specs.Outcomes.{RecordsReads, Rounded};
 ghost use Rattle.checker.specs.Models.{Narrower};
 
 mod reading;
@@ -53,14 +58,62 @@ fn accepted(count: Count, n: usize, winner: usize) -> Checked
     }
 }
 
+// What the ballot that is next has in a round, read at a place.
+fn next_record(board: &[u8], at: usize, h: Head, round: Round, walk: Walk) -> Passed
+    requires { ⌜ HeaderKnown ranked (now board) h × Walked (now board) h round at walk × (walk .k < h .k) × (round .m + 1 < h .n) × (0 < round .m → Later h round) ⌝ }
+    ensures { λ r. ⌜ RecordPasses (now (board .entry)) h (round .a) (round .m) (walk .k) at r ⌝ }
+{
+    reading::record_of(reading::start(board, at), h, round, walk)
+}
+
+// The sheet of a round whose records are read, at a place.
+fn next_sheet(
+    board: &[u8],
+    at: usize,
+    h: Head,
+    count: Count,
+    round: Round,
+    read: RecordsRead,
+) -> RoundRead
+    requires { ⌜ HeaderKnown ranked (now board) h × Kept count × (count .gone .outs ≡ round .m) × (round .m + 1 < h .n) × RecordsReads (now board) h (round .a) (round .m) read × (at ≡ read .next) ⌝ }
+    ensures { λ r. ⌜ Rounded (now (board .entry)) h count (round .m) (round .a) r ⌝ }
+{
+    reading::sheet_of(reading::start(board, at), h, count, round, read)
+}
+
+// The ballots' records of a round that starts at a place, each read where the one before it ends.
+fn read_records(board: &[u8], at: usize, h: Head, round: Round) -> RecordsRead
+    requires { ⌜ HeaderKnown ranked (now board) h × Begins (now board) h at round ⌝ }
+    ensures { λ r. ⌜ RecordsReads (now (board .entry)) h (round .a) (round .m) r ⌝ }
+{
+    let head = h;
+    let here = round;
+    let count = h.k;
+    let mut place = at;
+    let mut walk = round::ahead(h, round);
+    while walk.k < count {
+        let read = next_record(board, place, head, here, walk);
+        match read {
+            Passed::Refused(why) => {
+                return round::read_so_far(Fault::Refused(why), place, walk);
+            }
+            Passed::To(next) => {
+                let past = round::past_record(board, place, head, here, walk, next);
+                walk = past;
+                place = next;
+            }
+        }
+    }
+    round::read_so_far(Fault::Sound, place, walk)
+}
+
 // One round, from the place where it starts to the place after its sheet.
 fn read_round(board: &[u8], at: usize, h: Head, count: Count, round: Round) -> RoundRead
     requires { ⌜ HeaderKnown ranked (now board) h × Begins (now board) h at round × Kept count × (count .gone .outs ≡ round .m) ⌝ }
     ensures { λ r. ⌜ Rounded (now (board .entry)) h count (round .m) (round .a) r ⌝ }
 {
-    let r = reading::start(board, at);
-    let read = reading::records_of(r, h, round);
-    reading::sheet_of(reading::moved(r, read.next), h, count, round, read)
+    let read = read_records(board, at, h, round);
+    next_sheet(board, read.next, h, count, round, read)
 }
 
 // The rounds from a place on, one after another. Each sheet takes the standing count and hands back the next.

@@ -3,9 +3,11 @@
 use count::Count;
 use header::Head;
 use header::HeaderRead;
+use records::Passed;
 use round::RecordsRead;
 use round::Round;
 use round::RoundRead;
+use round::Walk;
 use rules::Checked;
 use rules::Model;
 ghost use mathlib.Core.Path.{_≡_};
@@ -18,7 +20,8 @@ ghost use Rattle.rules.specs.Check.{checkModel};
 ghost use Rattle.rules.specs.Answers.{verdictOf, orderOf};
 ghost use Rattle.count.specs.State.{Kept};
 ghost use Rattle.header.specs.Heads.{HeaderKnown, HeaderReads};
-ghost use Rattle.round.specs.Rounds.{Begins};
+ghost use Rattle.round.specs.Rounds.{Later};
+ghost use Rattle.round.specs.Walks.{Walked, RecordPasses};
 ghost use Rattle.round.specs.Outcomes.{RecordsReads, Rounded};
 ghost use Rattle.checker.specs.Models.{Narrower};
 
@@ -60,12 +63,12 @@ pub fn header_of<'a>(r: Reading<'a>, model: Model) -> HeaderRead
     header_at(r.board, r.next, model)
 }
 
-// The ballots' records of a round, from the next place on.
-pub fn records_of<'a>(r: Reading<'a>, h: Head, round: Round) -> RecordsRead
-    requires { ⌜ HeaderKnown ranked (now (r .board)) h × Begins (now (r .board)) h (r .next) round ⌝ }
-    ensures { λ o. ⌜ RecordsReads (now (r .entry .board)) h (round .a) (round .m) o ⌝ }
+// What the ballot that is next has in a round, at the next place.
+pub fn record_of<'a>(r: Reading<'a>, h: Head, round: Round, walk: Walk) -> Passed
+    requires { ⌜ HeaderKnown ranked (now (r .board)) h × Walked (now (r .board)) h round (r .next) walk × (walk .k < h .k) × (round .m + 1 < h .n) × (0 < round .m → Later h round) ⌝ }
+    ensures { λ o. ⌜ RecordPasses (now (r .entry .board)) h (round .a) (round .m) (walk .k) (r .entry .next) o ⌝ }
 {
-    round::read_records(r.board, r.next, h, round)
+    round::read_record(r.board, r.next, h, round, walk)
 }
 
 // The sheet at the next place, after the records of its round.

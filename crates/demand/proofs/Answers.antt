@@ -18,12 +18,16 @@ use Rattle.jobs.specs.declared.Reply.the-variants as W
 use Rattle.jobs.specs.declared.Written.{Written}
 use Rattle.whole.specs.ThirdDemand.{IsWritten}
 use Rattle.whole.proofs.ThirdDemand.{third-demand}
+use Rattle.whole.proofs.Audited.{audited}
 use Rattle.jobs.proofs.FineJob.{no-refusal}
-use Rattle.demand.specs.Demand.{AcceptedIsPlain, ValidIsWritten}
+use Rattle.demand.specs.Demand.{AcceptedIsPlain, AuditedAsShown, ValidIsWritten}
 
 pub accepted-is-plain : (s : List ℕ) (r : Checked) → verdictOf r ≡ checkBoard sha256 s → AcceptedIsPlain s r
 accepted-is-plain s r e rounds winner rankings a o =
     third-demand sha256 .accepted-boards s rounds (take (rounds - 1) (r .order)) winner rankings (sym e ∙ rw a) o
+
+pub audited-as-shown : (s : List ℕ) (r : Checked) → verdictOf r ≡ checkBoard sha256 s → AuditedAsShown s r
+audited-as-shown s r e rounds winner k a l c = audited sha256 .opens-as-shown s (rounds, take (rounds - 1) (r .order), winner, sym e ∙ rw a) k l c
 
 -- a reply whose outcome is a board is one
 reply-is : (w : Reply) (order : List ℕ) (l rounds : ℕ) (outs : List ℕ) (winner : ℕ) → replyOf w order ≡ boardWritten l rounds outs winner →

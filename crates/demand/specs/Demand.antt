@@ -1,30 +1,39 @@
 -- What the third demand says of a call of `check`, and of a call of `write`.
-use Prim.Native.Nat.{ℕ, _-_, _≤_}
+use Prim.Native.Nat.{ℕ, _-_, _≤_, _<_}
 use mathlib.Core.Path.{_≡_}
+use mathlib.Core.Bool.{true}
 use mathlib.Core.List.{List}
 use lib.ListN.{length, take, drop}
 use Rattle.sha256.specs.Message.{sha256}
-use Rattle.rules.specs.Count.{table, plainCount}
+use Rattle.rules.specs.Records.{isAudited}
+use Rattle.rules.specs.Count.{plainCount}
 use Rattle.rules.specs.Header.{header}
+use Rattle.rules.specs.Check.{kind}
 use Rattle.rules.specs.Openings.{Opens}
 use Rattle.rules.specs.declared.Checked.{Checked}
 use Rattle.rules.specs.declared.Answer.the-variants as A
 use Rattle.jobs.specs.Job.{Job, plainResult, boardLength}
 use Rattle.jobs.specs.declared.Written.{Written}
 use Rattle.jobs.specs.declared.Reply.the-variants as W
-use Rattle.whole.specs.ThirdDemand.{IsPlain, IsWritten}
+use Rattle.whole.specs.ThirdDemand.{countedRankings, IsPlain, IsWritten}
+use Rattle.whole.specs.Audited.{OpensAsShown}
 use Rattle.jobs.specs.Write.{Valid}
 
--- an accepted board whose matrices open to rankings and struck rows has the plain count's rounds, counts, order and winner:
+-- an accepted board whose counted ballots' matrices open to rankings and struck rows has the plain count's rounds, counts, order and winner:
 -- of the answer r to the board s
 abbrev pub AcceptedIsPlain : (s : List ℕ) → Checked → Type 0
 AcceptedIsPlain s r =
     (rounds winner : ℕ) (rankings : ℕ → List ℕ) →
     r .answer ≡ A.Accepted rounds winner →
     Opens s rankings rounds →
-    IsPlain s rounds (take (rounds - 1) (r .order)) winner (plainCount (header s .n) (table (header s .K) rankings))
+    IsPlain s rounds (take (rounds - 1) (r .order)) winner (plainCount (header s .n) (countedRankings s rankings))
 
--- every board written by the rules from 1 to 1,000 rankings of 2 to 8 processes, in any valid group with any valid draws, is accepted with that count:
+-- "each accepted audited ballot provably opens to its shown ranking" (02, L5): of the answer r to the board s
+abbrev pub AuditedAsShown : (s : List ℕ) → Checked → Type 0
+AuditedAsShown s r =
+    (rounds winner k : ℕ) → r .answer ≡ A.Accepted rounds winner → k < header s .K → isAudited (kind s (header s) k) ≡ true → OpensAsShown s k
+
+-- every board written by the rules from 1 to 1,000 rankings of 2 to 8 processes, one counted at least, in any valid group with any valid draws, is accepted with that count:
 -- of the reply r to a job whose output held `before`, and then held `after`
 pub record WrittenIsPlain (job : Job) (before after : List ℕ) (r : Written) : Type 0 where
   -- the reply has the board's length and the plain count's rounds, order and winner

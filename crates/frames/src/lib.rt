@@ -4,8 +4,8 @@ ghost use mathlib.Core.Path.{_≡_};
 ghost use Prim.Native.Nat.{_+_, _≤_, _<_};
 ghost use lib.ListN.{length, getD};
 ghost use Rattle.rules.specs.Bytes.{number2};
-ghost use Rattle.rules.specs.Records.{BA, SH, RT, hasMark, ballotLength, shiftLength, sheetLength};
-ghost use Rattle.frames.specs.Framed.{Begun, Framed};
+ghost use Rattle.rules.specs.Records.{SH, RT, hasMark, kindAt, shiftLength, sheetLength};
+ghost use Rattle.frames.specs.Framed.{Begun, Framed, BallotFramed};
 
 // What some tests of a record find.
 pub enum Fault {
@@ -69,11 +69,31 @@ fn numbered(board: &[u8], at: usize, size: usize, mark: [u8; 2], due: usize) -> 
     Fault::Sound
 }
 
+// The kind of the BA record at a place; 0 where the board ends before it.
+pub fn kind(board: &[u8], at: usize) -> usize
+    requires { ⌜ at ≤ length (now board) ⌝ }
+    ensures { λ r. ⌜ r ≡ kindAt (now (board .entry)) at ⌝ }
+{
+    if board.len() - at < 5 {
+        return 0;
+    }
+    byte(board, at + 4)
+}
+
+// A BA record: its length by its kind, mark, number and kind.
 pub fn ballot_frame(board: &[u8], at: usize, n: usize, due: usize) -> Fault
     requires { ⌜ (at ≤ length (now board)) × (n ≤ 8) ⌝ }
-    ensures { λ r. ⌜ Framed (now (board .entry)) at (ballotLength n) BA (number2 (now (board .entry)) (at + 2)) due r ⌝ }
+    ensures { λ r. ⌜ BallotFramed (now (board .entry)) at n due r ⌝ }
 {
-    numbered(board, at, layout::ballot_length(n), layout::BA, due)
+    let kind = kind(board, at);
+    let framed = numbered(board, at, layout::ballot_length(n, kind), layout::BA, due);
+    if let Fault::Refused(why) = framed {
+        return Fault::Refused(why);
+    }
+    if layout::AUDITED < kind {
+        return Fault::Refused(Refusal::Kind);
+    }
+    Fault::Sound
 }
 
 pub fn shift_frame(board: &[u8], at: usize, n: usize, rows: usize, due: usize) -> Fault

@@ -28,9 +28,9 @@ checkAnswer (refused number place) answer = answer
 
 -- ---- write: 0 and the result, or the refusal and no change
 
-abbrev pub job : (n K p q g0 counter : ℕ) (label rankings draws : List ℕ) → Job
-job n K p q g0 counter label rankings draws =
-    record { n = n; K = K; p = p; q = q; g0 = g0; counter = counter; label = label; rankings = rankings; draws = draws }
+abbrev pub job : (n K p q g0 counter : ℕ) (label rankings kinds draws : List ℕ) → Job
+job n K p q g0 counter label rankings kinds draws =
+    record { n = n; K = K; p = p; q = q; g0 = g0; counter = counter; label = label; rankings = rankings; kinds = kinds; draws = draws }
 
 abbrev pub writeCode : Outcome → ℕ
 writeCode (boardWritten long rounds order winner) = 0

@@ -34,13 +34,14 @@ pub extern "C" fn gooseoften_write(
     counter: u8,
     label: &[u8],
     rankings: &[u8],
+    kinds: &[u8],
     draws: &[u32],
     out: &mut [u8],
     answer: &mut [usize; 11],
 ) -> usize
-    ensures { λ r. ⌜ r ≡ writeCode (writeOutcome sha256 (job n k p q g0 counter (now (label .entry)) (now (rankings .entry)) (now (draws .entry))) (length (now (out .entry)))) ⌝ }
-    ensures { λ _. ⌜ now (answer .exit) ≡ writeAnswer (writeOutcome sha256 (job n k p q g0 counter (now (label .entry)) (now (rankings .entry)) (now (draws .entry))) (length (now (out .entry)))) (now (answer .entry)) ⌝ }
-    ensures { λ _. ⌜ now (out .exit) ≡ writeOutput sha256 (job n k p q g0 counter (now (label .entry)) (now (rankings .entry)) (now (draws .entry))) (now (out .entry)) ⌝ }
+    ensures { λ r. ⌜ r ≡ writeCode (writeOutcome sha256 (job n k p q g0 counter (now (label .entry)) (now (rankings .entry)) (now (kinds .entry)) (now (draws .entry))) (length (now (out .entry)))) ⌝ }
+    ensures { λ _. ⌜ now (answer .exit) ≡ writeAnswer (writeOutcome sha256 (job n k p q g0 counter (now (label .entry)) (now (rankings .entry)) (now (kinds .entry)) (now (draws .entry))) (length (now (out .entry)))) (now (answer .entry)) ⌝ }
+    ensures { λ _. ⌜ now (out .exit) ≡ writeOutput sha256 (job n k p q g0 counter (now (label .entry)) (now (rankings .entry)) (now (kinds .entry)) (now (draws .entry))) (now (out .entry)) ⌝ }
 {
     let job = Job {
         n,
@@ -50,7 +51,7 @@ pub extern "C" fn gooseoften_write(
         g0: Element(g0),
         counter,
     };
-    let written = writer::write(job, label, rankings, draws, out);
+    let written = writer::write(job, label, rankings, kinds, draws, out);
     let reply = written.reply;
     let order = written.order;
     answers::put_reply(answer, reply, order)

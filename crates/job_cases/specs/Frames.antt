@@ -26,7 +26,8 @@ pub record Within (s : List ℕ) (at : ℕ) (e : Ends) : Type 0 where
   pub named : at + 4 ≤ e .name
   pub labelled : e .name + 32 ≤ e .label
   pub ranked : e .label + 4 ≤ e .rankings
-  pub drawn : e .rankings + 4 ≤ e .draws
+  pub kinds : e .rankings + 4 ≤ e .kinds
+  pub drawn : e .kinds + 4 ≤ e .draws
   pub ended : e .draws ≤ length s
 
 unfoldable pub FrameReads : (s : List ℕ) (at : ℕ) → Frame → Type 0

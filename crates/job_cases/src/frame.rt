@@ -1,4 +1,4 @@
-// A job's frame: its name, 7 numbers of 4 bytes, its label, its rankings and its draws.
+// A job's frame: its name, 7 numbers of 4 bytes, its label, its rankings, its kinds and its draws.
 use testing::input;
 use testing::input::Piece;
 ghost use mathlib.Core.Path.{_≡_};
@@ -11,6 +11,7 @@ pub struct Ends {
     pub name: usize,
     pub label: usize,
     pub rankings: usize,
+    pub kinds: usize,
     pub draws: usize,
 }
 
@@ -62,13 +63,17 @@ pub fn read(s: &[u8], at: usize) -> Frame
     let Piece::Bytes(_, rankings) = input::piece_at(s, label) else {
         return Frame::Missing;
     };
-    let Piece::Bytes(_, draws) = input::piece_at(s, rankings) else {
+    let Piece::Bytes(_, kinds) = input::piece_at(s, rankings) else {
+        return Frame::Missing;
+    };
+    let Piece::Bytes(_, draws) = input::piece_at(s, kinds) else {
         return Frame::Missing;
     };
     Frame::Job(Ends {
         name,
         label,
         rankings,
+        kinds,
         draws,
     })
 }

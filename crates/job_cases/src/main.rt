@@ -52,10 +52,18 @@ fn print_reply(reply: Reply, order: [u8; 8], out: &[u8]) {
 }
 
 // Writes a job into the first bytes of out.
-fn write(job: Job, label: &[u8], rankings: &[u8], draws: &[u32], out: &mut [u8], size: usize)
+fn write(
+    job: Job,
+    label: &[u8],
+    rankings: &[u8],
+    kinds: &[u8],
+    draws: &[u32],
+    out: &mut [u8],
+    size: usize,
+)
     requires { ⌜ size ≤ length (now out) ⌝ }
 {
-    let written = writer::write(job, label, rankings, draws, &mut out[0..size]);
+    let written = writer::write(job, label, rankings, kinds, draws, &mut out[0..size]);
     let reply = written.reply;
     let order = written.order;
     print_reply(reply, order, out);
@@ -73,7 +81,14 @@ fn job_of(numbers: Numbers) -> Job {
 }
 
 // Writes a job, its draws given as bytes, and prints its line; false where draws or output are too long for this program.
-fn answer(name: &[u8], numbers: Numbers, label: &[u8], rankings: &[u8], bytes: &[u8]) -> bool {
+fn answer(
+    name: &[u8],
+    numbers: Numbers,
+    label: &[u8],
+    rankings: &[u8],
+    kinds: &[u8],
+    bytes: &[u8],
+) -> bool {
     let count = bytes.len() / 4;
     let length = numbers.length;
     if buffers::DRAWS < count {
@@ -89,6 +104,7 @@ fn answer(name: &[u8], numbers: Numbers, label: &[u8], rankings: &[u8], bytes: &
         job_of(numbers),
         label,
         rankings,
+        kinds,
         &draws[0..count],
         &mut out,
         length,
@@ -103,13 +119,15 @@ fn answer_at(input: &[u8], at: usize, ends: Ends) -> bool
     let name = ends.name;
     let label = ends.label;
     let rankings = ends.rankings;
+    let kinds = ends.kinds;
     let draws = ends.draws;
     answer(
         &input[at + 4..name],
         frame::numbers_at(input, name),
         &input[name + 32..label],
         &input[label + 4..rankings],
-        &input[rankings + 4..draws],
+        &input[rankings + 4..kinds],
+        &input[kinds + 4..draws],
     )
 }
 

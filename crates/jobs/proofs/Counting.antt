@@ -8,10 +8,11 @@ use mathlib.Core.List.{List, [], _∷_}
 use lib.ListN.{length, length-append}
 use borrow.Author.Tests.{eqb-false}
 use Rattle.numbers.proofs.Tests.{or-false-left}
-use Rattle.rules.specs.Count.{Standing, start, next, leaves, closes, ended, table, isRanking, countsOf, countFrom, plainCount}
-use Rattle.rules.proofs.Lists.{length-table}
+use Rattle.rules.specs.Records.{isCounted}
+use Rattle.rules.specs.Count.{Standing, start, next, leaves, closes, ended, isRanking, countsOf, countFrom, plainCount}
+use Rattle.rules.proofs.Lists.{length-where}
 use Rattle.rules.proofs.Leaving.{In, leaves-in, rounds-over}
-use Rattle.jobs.specs.Job.{Job, rankingOf, plainResult, remaining, rowOf}
+use Rattle.jobs.specs.Job.{Job, rankingOf, kindOf, countedBelow, countedRankings, plainResult, remaining, rowOf}
 use Rattle.jobs.proofs.Lists.{standing-all, strike}
 use Rattle.jobs.proofs.Rankings.{times, ranking-length, times-member, times-standing, length-struck, once, place-below}
 
@@ -24,15 +25,12 @@ pub place-in : (n : ℕ) (gone r : List ℕ) (c : ℕ) → isRanking n r ≡ tru
 place-in n gone r c ranking o = place-below c (remaining gone r) (times-member c (remaining gone r) (omega (arith, in-once n gone r c ranking o)))
 
 module _ (job : Job) where
-  abbrev pub rankings : List (List ℕ)
-  rankings = table (job .K) (rankingOf job)
-
   -- the counts of a round, whether it closes the board, and who goes out in it otherwise
   abbrev pub countsIn : Standing → List ℕ
-  countsIn st = countsOf (job .n) rankings (st .gone)
+  countsIn st = countsOf (job .n) (countedRankings job) (st .gone)
 
   abbrev pub closesIn : Standing → Bool
-  closesIn st = closes (job .n) st (countsIn st) (job .K)
+  closesIn st = closes (job .n) st (countsIn st) (countedBelow job (job .K))
 
   abbrev pub leavesIn : Standing → ℕ
   leavesIn st = leaves (job .n) st (countsIn st)
@@ -44,7 +42,7 @@ module _ (job : Job) where
     pub sheeted : length (st .sheets) ≡ m
     pub out : length (st .gone) ≡ m
     pub short : (k : ℕ) → k < job .K → length (remaining (st .gone) (rankingOf job k)) ≡ job .n - m
-    pub plain : countFrom (job .n) rankings fuel st ≡ plainResult job
+    pub plain : countFrom (job .n) (countedRankings job) fuel st ≡ plainResult job
 
   module _ (ranked : (k : ℕ) → k < job .K → isRanking (job .n) (rankingOf job k) ≡ true) where
     pub first-reached : 2 ≤ job .n → Reached (job .n) start 0
@@ -61,14 +59,14 @@ module _ (job : Job) where
 
     module _ {fuel : ℕ} {st : Standing} {m : ℕ} (r : Reached (suc fuel) st m) where
       pub in-rounds : m < plainResult job .rounds
-      in-rounds = rw (r .plain, r .sheeted) at (rounds-over (job .n) rankings (suc fuel) st)
+      in-rounds = rw (r .plain, r .sheeted) at (rounds-over (job .n) (countedRankings job) (suc fuel) st)
 
       pub leaves-still-in : In (st .gone) (job .n) (leavesIn st)
       leaves-still-in = leaves-in (job .n) st (countsIn st) (omega (arith, r .out, r .early))
 
       pub plain-closed : closesIn st ≡ true → plainResult job ≡ ended (job .n) st (countsIn st)
       unfolding countFrom
-      plain-closed e = sym (r .plain) ∙ rw (length-table (job .K) (rankingOf job), e)
+      plain-closed e = sym (r .plain) ∙ rw (length-where (job .K) (λ k. isCounted (kindOf job k)) (rankingOf job), e)
 
       pub next-reached : closesIn st ≡ false → Reached fuel (next (job .n) st (countsIn st)) (suc m)
       unfolding countFrom closes
@@ -87,5 +85,5 @@ module _ (job : Job) where
                   r .short k l,
                   r .early,
                 ));
-            plain = rw (length-table (job .K) (rankingOf job), e) at (r .plain);
+            plain = rw (length-where (job .K) (λ k. isCounted (kindOf job k)) (rankingOf job), e) at (r .plain);
           }

@@ -1,39 +1,39 @@
 -- Where the draws of records lie.
 use Prim.Native.Nat.{ℕ, zero, suc, _+_, _*_, _-_, _≤_, _<_}
-use mathlib.Core.Path.{_≡_, refl, ap}
+use mathlib.Core.Path.{_≡_, refl}
+use mathlib.Core.Bool.{true}
 use native.Mathlib.Nat.{zero-add, suc-add, mul-le-mul-right}
 use native.Mathlib.Omega.{arith}
+use Rattle.numbers.specs.Below.{sumBelow}
+use Rattle.numbers.proofs.Sums.{sum-within}
+use Rattle.rules.specs.Records.{isCounted}
 use Rattle.jobs.specs.Job.{recordDraws, roundDraws, drawsAt}
 
-pub draws-within : (n K m b : ℕ) → b < K → drawsAt n K m b + recordDraws n m ≤ roundDraws n K (suc m)
-unfolding roundDraws
-draws-within n K m b h =
-    let u : (b + 1) * recordDraws n m ≤ K * recordDraws n m = mul-le-mul-right (recordDraws n m) (omega arith) in
-    omega arith
-
-pub round-more : (n K m : ℕ) → roundDraws n K (suc m) ≡ roundDraws n K m + K * recordDraws n m
-unfolding roundDraws
-round-more n K m = refl
-
 -- a record's secrets are among its draws
-pub secrets-within : (n m : ℕ) → (n - m) * n ≤ recordDraws n m
+pub secrets-within : (n kind m : ℕ) → isCounted kind ≡ true → (n - m) * n ≤ recordDraws n kind m
 unfolding recordDraws
-secrets-within n zero = let u : (n - 0) * n ≤ n * n = mul-le-mul-right n (omega arith) in omega arith
-secrets-within n (suc m) = omega arith
+secrets-within n kind zero c = let u : (n - 0) * n ≤ n * n = mul-le-mul-right n (omega arith) in omega arith
+secrets-within n kind (suc m) c = rw c (omega arith)
 
--- the first pairs of a round's ballots are among its draws
-pub columns-within : (n K m : ℕ) → m + 1 ≤ n → 1 ≤ K → roundDraws n K m + n + recordDraws n m * (K - 1) ≤ roundDraws n K (suc m)
-columns-within n K m h k =
-    let r = recordDraws n m in
-    let e : K ≡ K - 1 + 1 = omega arith in
-    let u : 1 * n ≤ (n - m) * n = mul-le-mul-right n (omega arith) in
-    omega (arith, round-more n K m, secrets-within n m, ap (λ (x : ℕ). x * r) e)
+module _ (n : ℕ) (kind : ℕ → ℕ) where
+  pub round-more : (K m : ℕ) → roundDraws n kind K (suc m) ≡ roundDraws n kind K m + sumBelow K (λ k. recordDraws n (kind k) m)
+  unfolding roundDraws
+  round-more K m = refl
 
--- rounds further on start further on
-draws-up : (n K m d : ℕ) → roundDraws n K m ≤ roundDraws n K (d + m)
-unfolding roundDraws
-draws-up n K m zero = rw zero-add (omega arith)
-draws-up n K m (suc d) = rw suc-add (omega (arith, draws-up n K m d))
+  pub draws-within : (K m b : ℕ) → b < K → drawsAt n kind K m b + recordDraws n (kind b) m ≤ roundDraws n kind K (suc m)
+  draws-within K m b h = omega (arith, round-more K m, sum-within K b (λ k. recordDraws n (kind k) m) h)
 
-pub draws-mono : (n K m r : ℕ) → m ≤ r → roundDraws n K m ≤ roundDraws n K r
-draws-mono n K m r h = let e : r - m + m ≡ r = omega arith in rw e at (draws-up n K m (r - m))
+  -- the first pairs of a counted ballot are among its round's draws
+  pub columns-within : (K m b : ℕ) → m + 1 ≤ n → b < K → isCounted (kind b) ≡ true → drawsAt n kind K m b + n ≤ roundDraws n kind K (suc m)
+  columns-within K m b h l c =
+      let u : 1 * n ≤ (n - m) * n = mul-le-mul-right n (omega arith) in
+      omega (arith, draws-within K m b l, secrets-within n (kind b) m c)
+
+  -- rounds further on start further on
+  draws-up : (K m d : ℕ) → roundDraws n kind K m ≤ roundDraws n kind K (d + m)
+  unfolding roundDraws
+  draws-up K m zero = rw zero-add (omega arith)
+  draws-up K m (suc d) = rw suc-add (omega (arith, draws-up K m d))
+
+  pub draws-mono : (K m r : ℕ) → m ≤ r → roundDraws n kind K m ≤ roundDraws n kind K r
+  draws-mono K m r h = let e : r - m + m ≡ r = omega arith in rw e at (draws-up K m (r - m))

@@ -1,14 +1,15 @@
 -- What a valid job has, and which jobs are valid.
 use Prim.Native.Nat.{ℕ, _*_, _-_, _%_, _≤_, _<_}
-use native.Mathlib.Nat.{mod-eq-of-lt}
+use native.Mathlib.Nat.{mod-eq-of-lt, pos-of-ne-zero}
 use native.Mathlib.Omega.{arith}
 use mathlib.Core.Path.{_≡_}
-use mathlib.Core.Bool.{true, _&&_, and-eq-true-iff}
+use mathlib.Core.Bool.{true, _&&_, _||_, and-eq-true-iff}
 use mathlib.Core.List.{List}
 use lib.Dec.{leb, ltb, eqb}
 use lib.ListN.{length}
-use borrow.Author.Tests.{ltb-true, leb-true, le-leb, eqb-true}
-use Rattle.jobs.specs.Job.{boardLength, Job, groupOf, rankingOf, needed, draw}
+use borrow.Author.Tests.{ltb-true, leb-true, le-leb, eqb-true, eqb-false, not-true}
+use Rattle.jobs.specs.Job.{boardLength, Job, groupOf, rankingOf, kindOf, countedBelow, needed, draw}
+use Rattle.rules.specs.Records.{isCounted, isAudited}
 use Rattle.rules.specs.Tests.{firstFault}
 use Rattle.numbers.proofs.Tests.{all-at}
 use Rattle.rules.specs.Group.{orders, generators}
@@ -28,6 +29,8 @@ pub record Fine (hash : List ℕ → List ℕ) (job : Job) : Type 0 where
   pub labelled : length (job .label) ≡ 32
   pub generated : generators hash (job .label) (job .counter) (groupOf hash job) ≡ true
   pub ranked : (k : ℕ) → k < job .K → isRanking (job .n) (rankingOf job k) ≡ true
+  pub kinds : (k : ℕ) → k < job .K → (isCounted (kindOf job k) || isAudited (kindOf job k)) ≡ true
+  pub some-counted : 0 < countedBelow job (job .K)
   pub drawn : (d : ℕ) → d < needed job → (1 ≤ draw job d) × (draw job d < job .q)
 
 pub fine : (hash : List ℕ → List ℕ) (job : Job) → Valid hash job → Fine hash job
@@ -35,6 +38,7 @@ fine hash job v =
     let a = simp and-eq-true-iff at (v .passed .sized) in
     let c = and-eq-true-iff _ _ .0 (v .passed .labelled) in
     let d = and-eq-true-iff (eqb (length (job .rankings)) (job .K * job .n)) _ .0 (v .passed .ranked) in
+    let b = and-eq-true-iff (eqb (length (job .kinds)) (job .K)) _ .0 (v .passed .kinds) in
     let e = and-eq-true-iff (leb (needed job) (length (job .draws))) _ .0 (v .drawn) in
     record {
       n-low = leb-true 2 (job .n) (a .0 .0 .0);
@@ -45,6 +49,8 @@ fine hash job v =
       labelled = eqb-true (length (job .label)) 32 (c .0);
       generated = c .1;
       ranked = all-at (job .K) _ (d .1);
+      kinds = all-at (job .K) _ (b .1);
+      some-counted = pos-of-ne-zero (eqb-false (countedBelow job (job .K)) 0 (not-true (eqb (countedBelow job (job .K)) 0) (v .passed .some-counted)));
       drawn = λ i l.
           let w = and-eq-true-iff _ _ .0 (all-at (needed job) (λ i. leb 1 (draw job i) && ltb (draw job i) (job .q)) (e .1) i l) in
           (leb-true 1 _ (w .0), ltb-true _ _ (w .1));
@@ -60,11 +66,13 @@ valid hash job room h =
     let d = first-holds _ _ (omega arith) (c .1) in
     let e = first-holds _ _ (omega arith) (d .1) in
     let f = first-holds _ _ (omega arith) (e .1) in
-    (record { passed = record { sized = a .0; ordered = b .0; labelled = c .0; ranked = d .0 }; drawn = e .0 }, leb-true _ _ (f .0))
+    let g = first-holds _ _ (omega arith) (f .1) in
+    let i = first-holds _ _ (omega arith) (g .1) in
+    (record { passed = record { sized = a .0; ordered = b .0; labelled = c .0; ranked = d .0; kinds = e .0; some-counted = f .0 }; drawn = g .0 }, leb-true _ _ (i .0))
 
 pub no-refusal : (hash : List ℕ → List ℕ) (job : Job) (room : ℕ) → Valid hash job → boardLength job ≤ room → jobFault hash job room ≡ 0
 unfolding jobFault firstFault
-no-refusal hash job room v l = let t = v .passed in rw (t .sized, t .ordered, t .labelled, t .ranked, v .drawn, le-leb (boardLength job) room l)
+no-refusal hash job room v l = let t = v .passed in rw (t .sized, t .ordered, t .labelled, t .ranked, t .kinds, t .some-counted, v .drawn, le-leb (boardLength job) room l)
 
 pub good-group : (hash : List ℕ → List ℕ) (job : Job) → Fine hash job → Good (groupOf hash job)
 unfolding orders generators isElement

@@ -11,12 +11,12 @@ use lib.ListN.{length, getD}
 use borrow.Author.Tests.{le-leb, eq-eqb, ne-eqb, eqb-true}
 use mathlib.Core.Logic.{⊎-elim}
 use Rattle.numbers.specs.Below.{allBelow, sumBelow}
-use Rattle.numbers.proofs.Sums.{sum-same, sum-swap, sum-constant}
+use Rattle.numbers.proofs.Sums.{sum-same, sum-swap, sum-zero}
 use Rattle.numbers.proofs.Tests.{all-at, one-fails, by-cases}
-use Rattle.rules.specs.Count.{member, table, isRanking, stillIn, firstIn, votesFor}
+use Rattle.rules.specs.Count.{member, tableWhere, isRanking, stillIn, firstIn, votesFor}
 use Rattle.jobs.specs.Job.{remaining}
 use Rattle.rules.specs.Openings.{without}
-use Rattle.rules.proofs.Lists.{eqb-sym, member-append, votes-table, shorter, member-without, pigeonhole}
+use Rattle.rules.proofs.Lists.{eqb-sym, member-append, votes-where, shorter, member-without, pigeonhole}
 
 -- ---- members struck
 pub standing-all : (r : List ℕ) → remaining [] r ≡ r
@@ -126,17 +126,16 @@ one-is (suc n) c l u =
     (λ (b : c < suc n). simp (one-is n c l (omega arith), ne-eqb c (suc n) (λ e. omega arith)))
     (eq-or-lt-of-le u)
 
-pub votes-sum : (n K : ℕ) (gone : List ℕ) (r : ℕ → List ℕ) → ((k : ℕ) → k < K → isRanking n (r k) ≡ true) → length gone < n →
-    sumBelow n (λ i. votesFor n gone (table K r) (suc i)) ≡ K
-votes-sum n K gone r full l =
-    sum-same n _ _ (λ i il. votes-table n gone K r (suc i))
-    ∙ sum-swap n K (λ i k. cond (eqb (firstIn n gone (r k)) (suc i)) 1 0)
-    ∙ sum-same K _ (λ k. 1) one
-    ∙ omega (arith, sum-constant K 1)
+pub votes-sum : (n K : ℕ) (gone : List ℕ) (p : ℕ → Bool) (r : ℕ → List ℕ) → ((k : ℕ) → k < K → p k ≡ true → isRanking n (r k) ≡ true) → length gone < n →
+    sumBelow n (λ i. votesFor n gone (tableWhere K p r) (suc i)) ≡ sumBelow K (λ k. cond (p k) 1 0)
+votes-sum n K gone p r full l =
+    sum-same n _ _ (λ i il. votes-where n gone K p r (suc i))
+    ∙ sum-swap n K (λ i k. cond (p k) (cond (eqb (firstIn n gone (r k)) (suc i)) 1 0) 0)
+    ∙ sum-same K _ _ (λ k b. by-cases (p k) (λ e. rw e (one k b e)) (λ e. rw e (sum-zero n)))
   where
-    one : (k : ℕ) → k < K → sumBelow n (λ i. cond (eqb (firstIn n gone (r k)) (suc i)) 1 0) ≡ 1
-    one k b =
-        let p = ranked-processes n (r k) (full k b) in
-        let here = first-of (remaining gone (r k)) (some-stand n gone (r k) (full k b) l) in
+    one : (k : ℕ) → k < K → p k ≡ true → sumBelow n (λ i. cond (eqb (firstIn n gone (r k)) (suc i)) 1 0) ≡ 1
+    one k b e =
+        let p = ranked-processes n (r k) (full k b e) in
+        let here = first-of (remaining gone (r k)) (some-stand n gone (r k) (full k b e) l) in
         let w = p (firstIn n gone (r k)) (rw (first-standing n gone (r k) p) at (standing-member _ gone (r k) here)) in
         one-is n (firstIn n gone (r k)) (w .0) (w .1)

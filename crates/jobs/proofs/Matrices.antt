@@ -28,10 +28,10 @@ pub record SameMatrix (rows n : ℕ) (M M' : Matrix) : Type 0 where
   pub same-y : (i j : ℕ) → i < rows → j < n → M .y i j ≡ M' .y i j
 
 pub pairs-stand : (s : List ℕ) (at n rows : ℕ) (M : Matrix) → ((i j : ℕ) → M .b i j < 4294967296) → ((i j : ℕ) → M .y i j < 4294967296) →
-    Stands s (at + 4) (pairBytes n M rows) → SameMatrix rows n (matrixAt s n at) M
+    Stands s at (pairBytes n M rows) → SameMatrix rows n (matrixAt s n at) M
 unfolding matrixAt
 pairs-stand s at n rows M small-b small-y h =
-    let cell : (i j : ℕ) → i < rows → j < n → Stands s (at + 4 + 8 * (i * n + j)) (bytes4 (M .b i j) ++ bytes4 (M .y i j)) = λ i j a b.
+    let cell : (i j : ℕ) → i < rows → j < n → Stands s (at + 8 * (i * n + j)) (bytes4 (M .b i j) ++ bytes4 (M .y i j)) = λ i j a b.
     stands-moved (omega arith)
     (stands-block n 8 (λ j. bytes4 (M .b i j) ++ bytes4 (M .y i j)) (λ _ _. refl) (stands-block rows (n * 8) _ (λ i _. length-pairs-row n M i) h i a) j b) in
     record {

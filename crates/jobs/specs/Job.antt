@@ -4,14 +4,16 @@ use mathlib.Core.Bool.{cond}
 use mathlib.Core.List.{List, [], _∷_}
 use lib.Dec.{eqb}
 use lib.ListN.{getD}
+use Rattle.numbers.specs.Below.{sumBelow}
 use Rattle.group.specs.Elements.{Parameters}
 use Rattle.rules.specs.Bytes.{part}
 use Rattle.rules.specs.Group.{derived}
-use Rattle.rules.specs.Records.{headerLength, recordLength, sheetLength}
-use Rattle.rules.specs.Count.{Result, table, member, plainCount}
+use Rattle.rules.specs.Records.{isCounted, headerLength, recordLength, sheetLength}
+use Rattle.rules.specs.Count.{Result, tableWhere, member, plainCount}
 use Rattle.rules.specs.Header.{Header}
 
--- "The writer is given n, K, p, q, g0, a counter of any value, label, rankings (a byte a place, one ranking after another) and draws (numbers of 32 bits)"
+-- "The writer is given n, K, p, q, g0, a counter of any value, label, rankings (a byte a place, one ranking after another) and draws (numbers of 32 bits)";
+-- 02, L5: "The writer is given a kind per ballot."
 pub record Job : Type 0 where
   pub n : ℕ
   pub K : ℕ
@@ -21,27 +23,37 @@ pub record Job : Type 0 where
   pub counter : ℕ
   pub label : List ℕ
   pub rankings : List ℕ
+  pub kinds : List ℕ
   pub draws : List ℕ
 
 -- "BA needs 4n² + 2n, SH needs Rn + (R+1)(2 + Rn) + R."
-unfoldable pub recordDraws : (n m : ℕ) → ℕ
-recordDraws n zero = 4 * (n * n) + 2 * n
-recordDraws n (suc m) = (n - suc m) * n + (n - suc m + 1) * (2 + (n - suc m) * n) + (n - suc m)
+abbrev pub ballotDraws : (n : ℕ) → ℕ
+ballotDraws n = 4 * (n * n) + 2 * n
 
--- "Draws are used in board order": those of the rounds before m, and where those of ballot k's record in round m start
-unfoldable pub roundDraws : (n K m : ℕ) → ℕ
-unfolding recordDraws
-roundDraws n K zero = 0
-roundDraws n K (suc m) = roundDraws n K m + K * recordDraws n m
+abbrev pub shiftDraws : (n R : ℕ) → ℕ
+shiftDraws n R = R * n + (R + 1) * (2 + R * n) + R
 
-abbrev pub drawsAt : (n K m k : ℕ) → ℕ
-drawsAt n K m k = roundDraws n K m + k * recordDraws n m
+-- of what a ballot of a kind has in round m: an audited ballot "has no SH"
+unfoldable pub recordDraws : (n kind m : ℕ) → ℕ
+recordDraws n kind zero = ballotDraws n
+recordDraws n kind (suc m) = cond (isCounted kind) (shiftDraws n (n - suc m)) 0
 
--- the bytes of a header and m rounds: on a board of K ballots, where round m starts
-unfoldable pub roundAt : (n K m : ℕ) → ℕ
-unfolding recordLength
-roundAt n K zero = headerLength
-roundAt n K (suc m) = roundAt n K m + K * recordLength n m + sheetLength n
+-- over n processes and the kinds of K ballots
+module _ (n : ℕ) (kind : ℕ → ℕ) where
+  -- "Draws are used in board order": those of the rounds before m, and where those of ballot k's record in round m start
+  unfoldable pub roundDraws : (K m : ℕ) → ℕ
+  unfolding recordDraws sumBelow
+  roundDraws K zero = 0
+  roundDraws K (suc m) = roundDraws K m + sumBelow K (λ k. recordDraws n (kind k) m)
+
+  abbrev pub drawsAt : (K m k : ℕ) → ℕ
+  drawsAt K m k = roundDraws K m + sumBelow k (λ i. recordDraws n (kind i) m)
+
+  -- the bytes of a header and m rounds
+  unfoldable pub roundAt : (K m : ℕ) → ℕ
+  unfolding recordLength sumBelow
+  roundAt K zero = headerLength
+  roundAt K (suc m) = roundAt K m + sumBelow K (λ k. recordLength n (kind k) m) + sheetLength n
 
 -- those of a ranking that are still in
 unfoldable pub remaining : (gone ranking : List ℕ) → List ℕ
@@ -57,6 +69,9 @@ module _ (job : Job) where
   abbrev pub rankingOf : (k : ℕ) → List ℕ
   rankingOf k = part (job .rankings) (k * job .n) (job .n)
 
+  abbrev pub kindOf : (k : ℕ) → ℕ
+  kindOf k = getD (job .kinds) k 0
+
   abbrev pub draw : (d : ℕ) → ℕ
   draw d = getD (job .draws) d 0
 
@@ -64,14 +79,21 @@ module _ (job : Job) where
   abbrev pub rowsOf : (gone : List ℕ) (k : ℕ) → ℕ → ℕ
   rowsOf gone k i = getD (remaining gone (rankingOf k)) i 0
 
+  -- how many of the first k ballots are counted; and the rankings of all that are: "The plain result now concerns counted rankings"
+  abbrev pub countedBelow : (k : ℕ) → ℕ
+  countedBelow k = sumBelow k (λ i. cond (isCounted (kindOf i)) 1 0)
+
+  abbrev pub countedRankings : List (List ℕ)
+  countedRankings = tableWhere (job .K) (λ k. isCounted (kindOf k)) rankingOf
+
   abbrev pub plainResult : Result
-  plainResult = plainCount (job .n) (table (job .K) rankingOf)
+  plainResult = plainCount (job .n) countedRankings
 
   unfoldable pub needed : ℕ
-  needed = roundDraws (job .n) (job .K) (plainResult .rounds)
+  needed = roundDraws (job .n) kindOf (job .K) (plainResult .rounds)
 
   unfoldable pub boardLength : ℕ
-  boardLength = roundAt (job .n) (job .K) (plainResult .rounds)
+  boardLength = roundAt (job .n) kindOf (job .K) (plainResult .rounds)
 
 -- the writer "works out g1"
 abbrev pub groupOf : (hash : List ℕ → List ℕ) → Job → Parameters

@@ -9,7 +9,7 @@ use Rattle.group.specs.Arithmetic.{powMod}
 use Rattle.group.specs.Elements.{Parameters}
 use Rattle.rules.specs.Bytes.{bytes2, bytes4}
 use Rattle.rules.specs.Group.{paired}
-use Rattle.rules.specs.Records.{BA, SH, RT}
+use Rattle.rules.specs.Records.{BA, SH, RT, isCounted, isAudited}
 use Rattle.rules.specs.Proofs.{Statement, Context}
 use Rattle.rules.specs.Claims.{Matrix, entryClaim, rowClaim, columnClaim, shiftClaim, source}
 use Rattle.rules.specs.Ballot.{entryPlace, rowPlace, columnPlace, ballotContext}
@@ -33,6 +33,10 @@ matrixOf g n list draws from =
 -- pairs by rows of n columns
 abbrev pub pairBytes : (n : ℕ) → Matrix → (rows : ℕ) → List ℕ
 pairBytes n M rows = concatBelow rows (λ i. concatBelow n (λ j. bytes4 (M .b i j) ++ bytes4 (M .y i j)))
+
+-- what an audited ballot shows: the exponents by rows, and the ranking
+unfoldable pub auditBytes : (n : ℕ) (list : ℕ → ℕ) (draws : List ℕ) (from : ℕ) → List ℕ
+auditBytes n list draws from = concatBelow n (λ i. concatBelow n (λ j. bytes4 (secretAt n draws from i j))) ++ concatBelow n (λ i. list i ∷ [])
 
 -- ---- proofs: which branch is true, why, and where their draws start
 -- of a row or column: the exponents of its pairs add up to the witness x
@@ -94,9 +98,11 @@ module _ (hash : List ℕ → List ℕ) (label : List ℕ) (g : Parameters) (n :
       ++ concatBelow n (λ i. proofBytes g (rowProver g n number list draws from i) hash label)
       ++ concatBelow n (λ j. proofBytes g (columnProver g n number list draws from j) hash label)
 
-  unfoldable pub ballotBytes : (number : ℕ) (list : ℕ → ℕ) (draws : List ℕ) (from : ℕ) → List ℕ
-  ballotBytes number list draws from =
-      BA ++ bytes2 number ++ pairBytes n (matrixOf g n list draws from) n ++ ballotProofBytes number list draws from
+  -- 02, L5: "BA gains a kind byte after its number"; "An audited record ends with n² exponents x (4 bytes each) and the ranking (n bytes)"
+  unfoldable pub ballotBytes : (number kind : ℕ) (list : ℕ → ℕ) (draws : List ℕ) (from : ℕ) → List ℕ
+  ballotBytes number kind list draws from =
+      BA ++ bytes2 number ++ (kind ∷ []) ++ pairBytes n (matrixOf g n list draws from) n ++ ballotProofBytes number list draws from
+      ++ cond (isAudited kind) (auditBytes n list draws from) []
 
   -- "SH | number 2; R × n pairs; one shift proof"
   unfoldable pub shiftBytes : (rows round number : ℕ) (before after : ℕ → ℕ) (struck a : ℕ) (draws : List ℕ) (old new : ℕ) → List ℕ
@@ -104,9 +110,14 @@ module _ (hash : List ℕ → List ℕ) (label : List ℕ) (g : Parameters) (n :
       SH ++ bytes2 number ++ pairBytes n (matrixOf g n after draws new) rows
       ++ proofBytes g (shiftProver g n rows round number before after struck a draws old new) hash label
 
--- "RT | round 1, out 1, then per process count 2, s 4": of round m, whose K records have so many draws each
-abbrev pub sheetColumn : (q n K : ℕ) (draws : List ℕ) (from each : ℕ) (counts : List ℕ) (i : ℕ) → List ℕ
-sheetColumn q n K draws from each counts i = bytes2 (getD counts i 0) ++ bytes4 (sumBelow K (λ k. secretAt n draws (from + k * each) 0 i) % q)
+-- "RT | round 1, out 1, then per process count 2, s 4": of round m of K ballots of these kinds, the draws of whose records start at from;
+-- 02, L5: an audited ballot "enters no product"
+module _ (q n K : ℕ) (kind : ℕ → ℕ) (draws : List ℕ) (from : ℕ → ℕ) where
+  abbrev pub columnSum : (i : ℕ) → ℕ
+  columnSum i = sumBelow K (λ k. cond (isCounted (kind k)) (secretAt n draws (from k) 0 i) 0)
 
-unfoldable pub sheetBytes : (q n K : ℕ) (draws : List ℕ) (from each m out : ℕ) (counts : List ℕ) → List ℕ
-sheetBytes q n K draws from each m out counts = RT ++ ((m + 1) ∷ out ∷ []) ++ concatBelow n (sheetColumn q n K draws from each counts)
+  abbrev pub sheetColumn : (counts : List ℕ) (i : ℕ) → List ℕ
+  sheetColumn counts i = bytes2 (getD counts i 0) ++ bytes4 (columnSum i % q)
+
+  unfoldable pub sheetBytes : (m out : ℕ) (counts : List ℕ) → List ℕ
+  sheetBytes m out counts = RT ++ ((m + 1) ∷ out ∷ []) ++ concatBelow n (sheetColumn counts)

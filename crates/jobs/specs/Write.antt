@@ -1,16 +1,17 @@
 -- Where a job stops: the writer's tests, its outcome, and what the output then holds.
 use Prim.Native.Nat.{ℕ, _*_}
 use mathlib.Core.Path.{_≡_}
-use mathlib.Core.Bool.{Bool, true, cond, not, _&&_}
+use mathlib.Core.Bool.{Bool, true, cond, not, _&&_, _||_}
 use mathlib.Core.List.{List, [], _∷_, _++_}
 use lib.Dec.{leb, ltb, eqb}
 use lib.ListN.{length, drop}
 use Rattle.numbers.specs.Below.{allBelow, firstBelow}
+use Rattle.rules.specs.Records.{isCounted, isAudited}
 use Rattle.rules.specs.Group.{orders, generators}
 use Rattle.rules.specs.Count.{isRanking}
 use Rattle.rules.specs.Tests.{firstFault, _orElse_}
 use Rattle.rules.specs.Header.{ranked, sizes}
-use Rattle.jobs.specs.Job.{Job, groupOf, rankingOf, draw, needed, boardLength, plainResult}
+use Rattle.jobs.specs.Job.{Job, groupOf, rankingOf, kindOf, countedBelow, draw, needed, boardLength, plainResult}
 use Rattle.jobs.specs.Board.{board}
 
 -- "5: a label not of 32 bytes, or a rule on g0 or g1 broken"
@@ -21,17 +22,27 @@ labelGood hash job = eqb (length (job .label)) 32 && generators hash (job .label
 abbrev pub rankingsGood : Job → Bool
 rankingsGood job = eqb (length (job .rankings)) (job .K * job .n) && allBelow (job .K) (λ k. isRanking (job .n) (rankingOf job k))
 
+-- 02, L5: "It refuses with 17 another kind (..; in the writer after 13, then 19, then 14; also for a kind list not K long)"
+abbrev pub kindsGood : Job → Bool
+kindsGood job = eqb (length (job .kinds)) (job .K) && allBelow (job .K) (λ k. isCounted (kindOf job k) || isAudited (kindOf job k))
+
+-- "with 19 a board with nothing counted"
+abbrev pub someCounted : Job → Bool
+someCounted job = not (eqb (countedBelow job (job .K)) 0)
+
 -- "14: fewer than needed, or a needed one outside 1 to q−1"
 abbrev pub drawsGood : Job → Bool
 drawsGood job = leb (needed job) (length (job .draws)) && allBelow (needed job) (λ d. leb 1 (draw job d) && ltb (draw job d) (job .q))
 
 module _ (hash : List ℕ → List ℕ) (job : Job) where
-  -- none of 3, 4, 5 and 13 is due
+  -- none of 3, 4, 5, 13, 17 and 19 is due
   pub record Passed : Type 0 where
     pub sized : sizes ranked (job .n) (job .K) ≡ true
     pub ordered : orders (job .n) (job .K) (job .p) (job .q) ≡ true
     pub labelled : labelGood hash job ≡ true
     pub ranked : rankingsGood job ≡ true
+    pub kinds : kindsGood job ≡ true
+    pub some-counted : someCounted job ≡ true
 
   -- from 1 to 1,000 rankings of 2 to 8 processes, in any valid group with any valid draws:
   -- "A group with its label and counter is valid if neither 4 nor 5 is due; draws are valid if 14 is not due."
@@ -39,7 +50,7 @@ module _ (hash : List ℕ → List ℕ) (job : Job) where
     pub passed : Passed
     pub drawn : drawsGood job ≡ true
 
--- "It checks n and K (3), group (4), label and generators (5 ..), rankings (13 ..), draws (14 ..), output (15: shorter than the board)."
+-- "It checks n and K (3), group (4), label and generators (5 ..), rankings (13 ..), draws (14 ..), output (15: shorter than the board)."; 17 and 19 behind 13
 -- 0 where no test fails; room: the output's length
 unfoldable pub jobFault : (hash : List ℕ → List ℕ) → Job → (room : ℕ) → ℕ
 jobFault hash job room =
@@ -48,6 +59,8 @@ jobFault hash job room =
     ∷ (orders (job .n) (job .K) (job .p) (job .q) orElse 4)
     ∷ (labelGood hash job orElse 5)
     ∷ (rankingsGood job orElse 13)
+    ∷ (kindsGood job orElse 17)
+    ∷ (someCounted job orElse 19)
     ∷ (drawsGood job orElse 14)
     ∷ (leb (boardLength job) room orElse 15)
     ∷ [])

@@ -1,8 +1,8 @@
 // The marks and the lengths of records, and the kinds of boards, for checker and writer alike.
 use rules::Model;
 ghost use mathlib.Core.Path.{_≡_};
-ghost use Prim.Native.Nat.{_≤_, _<_};
-ghost use Rattle.rules.specs.Records.{ballotLength, shiftLength, sheetLength, recordLength};
+ghost use Prim.Native.Nat.{_≤_, _<_, _^_};
+ghost use Rattle.rules.specs.Records.{recordsOf, pairsFrom, countedLength, auditLength, ballotLength, shiftLength, sheetLength, recordLength};
 ghost use Rattle.rules.specs.Header.{ranked};
 
 pub const HF: [u8; 2] = [72, 70];
@@ -14,6 +14,11 @@ pub const SH: [u8; 2] = [83, 72];
 pub const RT: [u8; 2] = [82, 84];
 
 pub const HEADER_LENGTH: usize = 54;
+
+// The kinds of ballots.
+pub const COUNTED: usize = 0;
+
+pub const AUDITED: usize = 1;
 
 // Boards of rankings.
 pub fn ranked() -> Model
@@ -27,11 +32,31 @@ pub fn ranked() -> Model
     }
 }
 
-pub fn ballot_length(n: usize) -> usize
+// Of a counted BA.
+pub fn counted_length(n: usize) -> usize
     requires { ⌜ n ≤ 8 ⌝ }
-    ensures { λ r. ⌜ (r ≡ ballotLength n) × (r ≤ 10000) ⌝ }
+    ensures { λ r. ⌜ (r ≡ countedLength n) × (r ≤ 4000) ⌝ }
 {
-    4 + 40 * (n * n) + 32 * n
+    5 + 40 * (n * n) + 32 * n
+}
+
+// Of what an audited BA shows behind its proofs.
+pub fn audit_length(n: usize) -> usize
+    requires { ⌜ n ≤ 8 ⌝ }
+    ensures { λ r. ⌜ (r ≡ auditLength n) × (r ≤ 300) ⌝ }
+{
+    4 * (n * n) + n
+}
+
+// Of a BA of a kind.
+pub fn ballot_length(n: usize, kind: usize) -> usize
+    requires { ⌜ n ≤ 8 ⌝ }
+    ensures { λ r. ⌜ (r ≡ ballotLength n kind) × (r ≤ 10000) ⌝ }
+{
+    if kind == AUDITED {
+        return counted_length(n) + audit_length(n);
+    }
+    counted_length(n)
 }
 
 pub fn shift_length(n: usize, rows: usize) -> usize
@@ -49,13 +74,40 @@ pub fn sheet_length(n: usize) -> usize
     4 + 6 * n
 }
 
-// Of a ballot's record in round m, from 0.
-pub fn record_length(n: usize, m: usize) -> usize
-    requires { ⌜ (n ≤ 8) × (m < n) ⌝ }
-    ensures { λ r. ⌜ (r ≡ recordLength n m) × (r ≤ 10000) ⌝ }
+// How many records a ballot of a kind has in round m, from 0; an audited one has no SH.
+pub fn records_of(kind: usize, m: usize) -> usize
+    ensures { λ r. ⌜ (r ≡ recordsOf kind m) × (r ≤ 1) ⌝ }
 {
     if m == 0 {
-        return ballot_length(n);
+        return 1;
     }
-    shift_length(n, n - m)
+    if kind == COUNTED {
+        return 1;
+    }
+    0
+}
+
+// Where the pairs of a ballot's record in round m start, the record standing at a place.
+pub fn pairs_from(m: usize, at: usize) -> usize
+    requires { ⌜ at < 2 ^ 63 ⌝ }
+    ensures { λ r. ⌜ r ≡ pairsFrom m at ⌝ }
+{
+    if m == 0 {
+        return at + 5;
+    }
+    at + 4
+}
+
+// The length of what it has there.
+pub fn record_length(n: usize, kind: usize, m: usize) -> usize
+    requires { ⌜ (n ≤ 8) × (m < n) ⌝ }
+    ensures { λ r. ⌜ (r ≡ recordLength n kind m) × (r ≤ 10000) ⌝ }
+{
+    if m == 0 {
+        return ballot_length(n, kind);
+    }
+    if kind == COUNTED {
+        return shift_length(n, n - m);
+    }
+    0
 }

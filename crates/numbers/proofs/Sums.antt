@@ -1,18 +1,28 @@
 -- Laws of sums below a bound.
 use Prim.Native.Nat.{ℕ, zero, suc, _+_, _*_, _%_, _≤_, _<_}
 use mathlib.Core.Path.{_≡_, refl, sym, ap, ap₂, _∙_}
-use mathlib.Core.Bool.{cond}
-use mathlib.Core.Logic.{⊎-elim}
+use mathlib.Core.Bool.{Bool, true, cond}
+use mathlib.Core.Logic.{_↔_, ⊎-elim}
 use native.Mathlib.Nat.{mul-zero, zero-mod, eq-or-lt-of-le, le-of-suc-le-suc, not-suc-le-zero}
+use native.Mathlib.Numerals.{add-one}
 use native.Mathlib.Omega.{arith}
 use lib.Dec.{eqb}
 use borrow.Author.Tests.{eq-eqb, ne-eqb}
 use Rattle.numbers.specs.Below.{sumBelow}
 use Rattle.numbers.proofs.Congruence.{Same, same-refl, same-of, add-same}
+use Rattle.numbers.proofs.Tests.{by-cases}
 
 pub sum-last : (m : ℕ) (f : ℕ → ℕ) → sumBelow (suc m) f ≡ sumBelow m f + f m
 unfolding sumBelow
 sum-last m f = refl
+
+-- a sum as a loop goes: one term more, and one that adds nothing
+pub sum-more : (m sum x : ℕ) (f : ℕ → ℕ) → sum ≡ sumBelow m f → x ≡ f m → sum + x ≡ sumBelow (m + 1) f
+unfolding sumBelow
+sum-more m sum x f h e = rw (add-one, h, e)
+
+pub sum-passed : (m sum : ℕ) (f : ℕ → ℕ) → sum ≡ sumBelow m f → f m ≡ 0 → sum ≡ sumBelow (m + 1) f
+sum-passed m sum f h e = omega (arith, sum-more m sum 0 f h (sym e))
 
 pub sum-first : (m : ℕ) (f : ℕ → ℕ) → sumBelow (suc m) f ≡ f 0 + sumBelow m (λ k. f (suc k))
 unfolding sumBelow
@@ -39,6 +49,12 @@ unfolding sumBelow
 sum-bound zero c f h = omega arith
 sum-bound (suc m) c f h = omega (arith, sum-bound m c f (λ k l. h k (omega arith)), h m (omega arith))
 
+-- terms that are no larger
+pub sum-mono : (m : ℕ) (f g : ℕ → ℕ) → ((k : ℕ) → k < m → f k ≤ g k) → sumBelow m f ≤ sumBelow m g
+unfolding sumBelow
+sum-mono zero f g h = omega arith
+sum-mono (suc m) f g h = omega (arith, sum-mono m f g (λ k l. h k (omega arith)), h m (omega arith))
+
 pub sum-constant : (m c : ℕ) → sumBelow m (λ k. c) ≡ m * c
 unfolding sumBelow
 sum-constant zero c = omega arith
@@ -46,6 +62,32 @@ sum-constant (suc m) c = let h = sum-constant m c in omega arith
 
 pub sum-zero : (n : ℕ) → sumBelow n (λ _. 0) ≡ 0
 sum-zero n = sum-constant n 0 ∙ mul-zero n
+
+-- of the terms that a test picks, all the same
+pub sum-where : (m c : ℕ) (p : ℕ → Bool) → sumBelow m (λ k. cond (p k) c 0) ≡ sumBelow m (λ k. cond (p k) 1 0) * c
+unfolding sumBelow
+sum-where zero c p = omega arith
+sum-where (suc m) c p = let h = sum-where m c p in by-cases (p m) (λ e. rw e (omega arith)) (λ e. rw e (omega arith))
+
+-- a test picks some number below the bound just where it is passed by one
+pub some-picked : (m : ℕ) (p : ℕ → Bool) → (0 < sumBelow m (λ k. cond (p k) 1 0)) ↔ ((k : ℕ) × (k < m) × (p k ≡ true))
+unfolding sumBelow
+some-picked zero p = (λ l. absurd (not-suc-le-zero l), λ w. absurd (not-suc-le-zero (w .1)))
+some-picked (suc m) p = (
+  λ l. by-cases (p m) (λ e. (m, omega arith, e)) (λ e. let w = some-picked m p .0 (omega (arith, rw e at l)) in (w .0, omega (arith, w .1), w .2)),
+  λ w.
+      ⊎-elim
+      (λ (e : w .0 ≡ m). let here : p m ≡ true = rw e at (w .2) in rw here (omega arith))
+      (λ (b : w .0 < m). omega (arith, some-picked m p .1 (w .0, b, w .2)))
+      (eq-or-lt-of-le (le-of-suc-le-suc (w .1))),
+)
+
+-- terms ahead of the bound, with the next
+pub sum-within : (m k : ℕ) (f : ℕ → ℕ) → k < m → sumBelow k f + f k ≤ sumBelow m f
+unfolding sumBelow
+sum-within zero k f l = absurd (not-suc-le-zero l)
+sum-within (suc m) k f l =
+    ⊎-elim (λ (e : k ≡ m). rw e (omega arith)) (λ (b : k < m). omega (arith, sum-within m k f b)) (eq-or-lt-of-le (le-of-suc-le-suc l))
 
 pub sum-swap : (n m : ℕ) (f : ℕ → ℕ → ℕ) → sumBelow n (λ i. sumBelow m (f i)) ≡ sumBelow m (λ k. sumBelow n (λ i. f i k))
 unfolding sumBelow
@@ -91,6 +133,10 @@ all-one-over (suc n) f h b i l =
 
 pub sum-under : (n : ℕ) (f : ℕ → ℕ) → ((i : ℕ) → i < n → f i ≤ 1) → sumBelow n f ≤ n
 sum-under n f h = omega (arith, sum-bound n 1 f h)
+
+-- a test picks no more numbers below the bound than there are
+pub few-picked : (m : ℕ) (p : ℕ → Bool) → sumBelow m (λ k. cond (p k) 1 0) ≤ m
+few-picked m p = sum-under m (λ k. cond (p k) 1 0) (λ k _. by-cases (p k) (λ e. rw e (omega arith)) (λ e. rw e (omega arith)))
 
 pub all-one-under : (n : ℕ) (f : ℕ → ℕ) → ((i : ℕ) → i < n → f i ≤ 1) → n ≤ sumBelow n f → (i : ℕ) → i < n → f i ≡ 1
 unfolding sumBelow

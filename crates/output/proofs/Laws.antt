@@ -79,11 +79,15 @@ rest-from x w o l a n e =
     let h : a ≤ length l = rw whole (simp length-append (omega arith)) in
     rest-is a l h ∙ rw whole (drop-at x _ a n)
 
--- one more of a run of lists of one width is written where the run ends
+-- one more of a run of lists is written where the run ends
+pub joined-more : (f : ℕ → List ℕ) (i a : ℕ) (o l x : List ℕ) → length (concatBelow i f) ≡ a → l ≡ written (concatBelow i f) o →
+    x ≡ written (f i) (midOf a (length l - a) l) → putMid a (length l - a) l x ≡ written (concatBelow (i + 1) f) o
+joined-more f i a o l x ea el ex = more (concatBelow i f) (f i) o l x a ea el ex ∙ rw (blocks-more f i)
+
+-- lists of one width
 pub block-more : (f : ℕ → List ℕ) (w i a : ℕ) (o l x : List ℕ) → ((j : ℕ) → j < i → length (f j) ≡ w) → a ≡ i * w → l ≡ written (concatBelow i f) o →
     x ≡ written (f i) (midOf a (length l - a) l) → putMid a (length l - a) l x ≡ written (concatBelow (i + 1) f) o
-block-more f w i a o l x wide ea el ex =
-    more (concatBelow i f) (f i) o l x a (length-blocks i w f wide ∙ sym ea) el ex ∙ rw (blocks-more f i)
+block-more f w i a o l x wide ea el ex = joined-more f i a o l x (length-blocks i w f wide ∙ sym ea) el ex
 
 -- ---- a list copied to the front, one element after another: none yet, one more, and all
 copy-more : (s o : List ℕ) (i : ℕ) → i < length s → length s ≤ length o → set (written (take i s) o) i (getD s i 0) ≡ written (take (i + 1) s) o

@@ -1,17 +1,17 @@
 -- The plain count, round by round, as the code's standing count goes.
-use Prim.Native.Nat.{ℕ, suc, _+_, _*_, _-_, _≤_, _<_}
+use Prim.Native.Nat.{ℕ, suc, _+_, _-_, _≤_, _<_}
 use mathlib.Core.Path.{_≡_, sym, ap, _∙_}
 use mathlib.Core.Bool.{true, false}
 use mathlib.Core.List.{List}
 use mathlib.Core.Logic.{⊎-elim}
-use native.Mathlib.Nat.{mul-le-mul-right, eq-or-lt-of-le}
+use native.Mathlib.Nat.{eq-or-lt-of-le}
 use native.Mathlib.Numerals.{add-one}
 use native.Mathlib.Omega.{arith}
 use lib.ListN.{length, getD, set, take, replicate, length-append, length-replicate}
 use lib.Seq.{length-take-le, take-suc, take-at, drop-at}
 use Rattle.rules.specs.Records.{recordLength, sheetLength}
-use Rattle.rules.specs.Count.{next, ended, closes, countsOf, countFrom, plainCount, table}
-use Rattle.rules.proofs.Lists.{length-table}
+use Rattle.numbers.specs.Below.{sumBelow}
+use Rattle.rules.specs.Count.{next, ended, closes, countsOf, countFrom, plainCount}
 use Rattle.jobs.specs.Job.{roundDraws, recordDraws, roundAt}
 use Rattle.count.specs.declared.Count.{Count}
 use Rattle.count.specs.declared.Gone.{Gone}
@@ -19,28 +19,28 @@ use Rattle.count.specs.State.{standingOf, listOf, Listed}
 use Rattle.rules.specs.Answers.{withZeros}
 use Rattle.plain.proofs.Lists.{pad-more}
 
-module _ (n k : ℕ) (f : ℕ → List ℕ) (c : Count) (m : ℕ) (cs : List ℕ) (low : m < n)
-    (w : plainCount n (table k f) ≡ countFrom n (table k f) (n - m) (standingOf n c))
-    (e : cs ≡ countsOf n (table k f) (listOf (c .gone))) where
+module _ (n C : ℕ) (rs : List (List ℕ)) (c : Count) (m : ℕ) (cs : List ℕ) (many : length rs ≡ C) (low : m < n)
+    (w : plainCount n rs ≡ countFrom n rs (n - m) (standingOf n c))
+    (e : cs ≡ countsOf n rs (listOf (c .gone))) where
   fuel : n - m ≡ suc (n - (m + 1))
   fuel = omega arith
 
-  pub count-goes : closes n (standingOf n c) cs k ≡ false →
-      plainCount n (table k f) ≡ countFrom n (table k f) (n - (m + 1)) (next n (standingOf n c) cs)
+  pub count-goes : closes n (standingOf n c) cs C ≡ false → plainCount n rs ≡ countFrom n rs (n - (m + 1)) (next n (standingOf n c) cs)
   unfolding countFrom standingOf
-  count-goes h = w ∙ rw (fuel, ← e, length-table k f, h)
+  count-goes h = w ∙ rw (fuel, ← e, many, h)
 
-  pub count-ends : closes n (standingOf n c) cs k ≡ true → plainCount n (table k f) ≡ ended n (standingOf n c) cs
+  pub count-ends : closes n (standingOf n c) cs C ≡ true → plainCount n rs ≡ ended n (standingOf n c) cs
   unfolding countFrom standingOf
-  count-ends h = w ∙ rw (fuel, ← e, length-table k f, h)
+  count-ends h = w ∙ rw (fuel, ← e, many, h)
 
-pub draws-more : (n K m d r : ℕ) → d ≡ roundDraws n K m → r ≡ recordDraws n m → d + K * r ≡ roundDraws n K (m + 1)
-unfolding roundDraws
-draws-more n K m d r e h = rw (add-one, e, h)
+module _ (n : ℕ) (kind : ℕ → ℕ) (K m d r : ℕ) where
+  pub draws-more : d ≡ roundDraws n kind K m → r ≡ sumBelow K (λ k. recordDraws n (kind k) m) → d + r ≡ roundDraws n kind K (m + 1)
+  unfolding roundDraws
+  draws-more e h = rw (add-one, e, h)
 
-pub length-more : (n K m d r s : ℕ) → d ≡ roundAt n K m → r ≡ recordLength n m → s ≡ sheetLength n → d + (K * r + s) ≡ roundAt n K (m + 1)
-unfolding roundAt
-length-more n K m d r s e h t = rw (add-one, e, h, t) (omega arith)
+  pub length-more : (s : ℕ) → d ≡ roundAt n kind K m → r ≡ sumBelow K (λ k. recordLength n (kind k) m) → s ≡ sheetLength n → d + (r + s) ≡ roundAt n kind K (m + 1)
+  unfolding roundAt
+  length-more s e h t = rw (add-one, e, h, t) (omega arith)
 
 -- the first of an order, one by one
 pub first-more : (order : List ℕ) (i : ℕ) → i < 8 → length order ≡ 8 → set (withZeros (take i order)) i (getD order i 0) ≡ withZeros (take (i + 1) order)
@@ -69,6 +69,3 @@ module _ (order first : List ℕ) (outs : ℕ) (few : outs ≤ 8) (long : length
 
 pub far : (m n : ℕ) → m + 2 ≤ n → (m + 1 ≡ n - 1 → ⊥) → m + 1 + 2 ≤ n
 far m n h t = ⊎-elim (λ (e : m + 2 ≡ n). absurd (t (omega arith))) (λ (l : m + 2 < n). omega arith) (eq-or-lt-of-le h)
-
-pub at-most : (k r : ℕ) → k ≤ 1000 → k * r ≤ 1000 * r
-at-most k r h = mul-le-mul-right r h

@@ -2,7 +2,7 @@
 use Prim.Native.Nat.{ℕ, suc, _+_, _-_, _≤_, _<_}
 use mathlib.Core.Path.{_≡_, refl, sym, ap, _∙_}
 use mathlib.Core.Bool.{Bool, true, false, cond, not}
-use mathlib.Core.List.{List, [], _∷_, _++_}
+use mathlib.Core.List.{List, [], _∷_, _++_, append-nil}
 use native.Mathlib.Nat.{add-zero, add-assoc}
 use native.Mathlib.Numerals.{add-one}
 use native.Mathlib.Omega.{arith}
@@ -13,7 +13,7 @@ use lib.Seq.{drop-cons, getD-take, getD-drop, getD-set-same, getD-set-other, ext
 use Rattle.numbers.proofs.Tests.{by-cases}
 use Rattle.rules.specs.Bytes.{part}
 use Rattle.numbers.specs.Below.{allBelow}
-use Rattle.rules.specs.Count.{member, isRanking, stillIn, firstIn, votesFor, countsOf, table}
+use Rattle.rules.specs.Count.{member, isRanking, stillIn, firstIn, votesFor, countsOf, table, tableWhere}
 use Rattle.rules.proofs.Lists.{length-table, table-at}
 
 module _ (s : List ℕ) (at n i : ℕ) (fits : at + n ≤ length s) where
@@ -82,13 +82,19 @@ unfolding votesFor
 votes-snoc n gone [] r c = omega arith
 votes-snoc n gone (x ∷ rs) r c = rw (votes-snoc n gone rs r c) (sym (add-assoc _ _ _))
 
-pub votes-more : (n : ℕ) (gone : List ℕ) (f : ℕ → List ℕ) (b c : ℕ) → votesFor n gone (table (b + 1) f) c ≡ votesFor n gone (table b f) c + cond (eqb (firstIn n gone (f b)) c) 1 0
-unfolding table
-votes-more n gone f b c = rw add-one (votes-snoc n gone (table b f) (f b) c)
+-- and of one ballot more, whose ranking may be counted
+module _ (n : ℕ) (gone : List ℕ) (p : ℕ → Bool) (f : ℕ → List ℕ) (b c : ℕ) where
+  pub votes-more : p b ≡ true → votesFor n gone (tableWhere (b + 1) p f) c ≡ votesFor n gone (tableWhere b p f) c + cond (eqb (firstIn n gone (f b)) c) 1 0
+  unfolding tableWhere
+  votes-more e = rw (add-one, e) (votes-snoc n gone (tableWhere b p f) (f b) c)
 
-pub votes-none : (n : ℕ) (gone : List ℕ) (f : ℕ → List ℕ) (c : ℕ) → votesFor n gone (table 0 f) c ≡ 0
-unfolding table votesFor
-votes-none n gone f c = refl
+  pub votes-passed : p b ≡ false → votesFor n gone (tableWhere (b + 1) p f) c ≡ votesFor n gone (tableWhere b p f) c
+  unfolding tableWhere
+  votes-passed e = rw (add-one, e, append-nil)
+
+pub votes-none : (n : ℕ) (gone : List ℕ) (p : ℕ → Bool) (f : ℕ → List ℕ) (c : ℕ) → votesFor n gone (tableWhere 0 p f) c ≡ 0
+unfolding tableWhere votesFor
+votes-none n gone p f c = refl
 
 pub counts-are : (counts : List ℕ) (n : ℕ) (gone : List ℕ) (rs : List (List ℕ)) → length counts ≡ 8 → n ≤ 8 →
     ((i : ℕ) → i < 8 → getD counts i 0 ≡ votesFor n gone rs (suc i)) → take n counts ≡ countsOf n rs gone

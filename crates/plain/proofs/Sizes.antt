@@ -3,16 +3,22 @@ use Prim.Native.Nat.{ℕ, zero, suc, _+_, _*_, _-_, _≤_}
 use mathlib.Core.Path.{_≡_, refl}
 use native.Mathlib.Nat.{mul-le-mul-right}
 use native.Mathlib.Omega.{arith}
+use borrow.Author.Tests.{eq-eqb, ne-eqb}
 use Rattle.jobs.specs.Job.{recordDraws}
 
-pub draws-first : (n m : ℕ) → m ≡ 0 → recordDraws n m ≡ 4 * (n * n) + 2 * n
+pub draws-first : (n kind m : ℕ) → m ≡ 0 → recordDraws n kind m ≡ 4 * (n * n) + 2 * n
 unfolding recordDraws
-draws-first n m e = rw e
+draws-first n kind m e = rw e
 
-pub draws-later : (n m : ℕ) → (m ≡ 0 → ⊥) → recordDraws n m ≡ (n - m) * n + (n - m + 1) * (2 + (n - m) * n) + (n - m)
+pub draws-later : (n kind m : ℕ) → (m ≡ 0 → ⊥) → kind ≡ 0 → recordDraws n kind m ≡ (n - m) * n + (n - m + 1) * (2 + (n - m) * n) + (n - m)
 unfolding recordDraws
-draws-later n zero h = absurd (h refl)
-draws-later n (suc m) h = refl
+draws-later n kind zero h c = absurd (h refl)
+draws-later n kind (suc m) h c = rw (eq-eqb kind 0 c)
+
+pub draws-none : (n kind m : ℕ) → (m ≡ 0 → ⊥) → (kind ≡ 0 → ⊥) → recordDraws n kind m ≡ 0
+unfolding recordDraws
+draws-none n kind zero h c = absurd (h refl)
+draws-none n kind (suc m) h c = rw (ne-eqb kind 0 c)
 
 -- a later round has few rows and pairs, and at most 8 branches
 pub record Later (n m branch : ℕ) : Type 0 where

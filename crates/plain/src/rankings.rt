@@ -5,36 +5,10 @@ ghost use Prim.Native.Nat.{_+_, _*_, _≤_, _<_};
 ghost use lib.ListN.{length, take};
 ghost use Rattle.rules.specs.Bytes.{part};
 ghost use Rattle.rules.specs.Answers.{withZeros};
-ghost use Rattle.rules.specs.Count.{member, isRanking, stillIn, firstIn};
+ghost use Rattle.rules.specs.Count.{stillIn, firstIn};
 ghost use Rattle.jobs.specs.Job.{Job, remaining, rowOf};
 ghost use Rattle.jobs.specs.Write.{firstBad};
 ghost use Rattle.count.specs.State.{listOf, Listed};
-
-// Whether process c stands on it.
-fn lists(rankings: &[u8], at: usize, n: usize, c: usize) -> bool
-    requires { ⌜ at + n ≤ length (now rankings) ⌝ }
-    ensures { λ r. ⌜ r ≡ member c (part (now (rankings .entry)) at n) ⌝ }
-{
-    for i in 0..n {
-        if numbers::wide(rankings[at + i]) == c {
-            return true;
-        }
-    }
-    false
-}
-
-// Whether every process stands on it.
-fn is_ranking(rankings: &[u8], at: usize, n: usize) -> bool
-    requires { ⌜ at + n ≤ length (now rankings) ⌝ }
-    ensures { λ r. ⌜ r ≡ isRanking n (part (now (rankings .entry)) at n) ⌝ }
-{
-    for i in 0..n {
-        if !lists(rankings, at, n, i + 1) {
-            return false;
-        }
-    }
-    true
-}
 
 // The first of k rankings, from 1, that lacks a process; 0 where none does.
 pub fn first_bad(rankings: &[u8], n: usize, k: usize) -> usize
@@ -43,7 +17,7 @@ pub fn first_bad(rankings: &[u8], n: usize, k: usize) -> usize
 {
     for b in 0..k {
         let at = b * n;
-        if !is_ranking(rankings, at, n) {
+        if !openings::is_ranking(rankings, at, n) {
             return b + 1;
         }
     }

@@ -8,7 +8,8 @@ ghost use Prim.Native.Nat.{ℕ, suc, _+_, _*_, _≤_, _<_};
 ghost use lib.Dec.{eqb};
 ghost use lib.ListN.{length, getD, take};
 ghost use Rattle.rules.specs.Bytes.{part};
-ghost use Rattle.rules.specs.Count.{countsOf, table};
+ghost use Rattle.rules.specs.Records.{isCounted};
+ghost use Rattle.rules.specs.Count.{countsOf, tableWhere};
 ghost use Rattle.count.specs.State.{listOf, Listed};
 
 // One vote more for a process, none for any other number.
@@ -26,15 +27,18 @@ fn voted(counts: [u32; 8], c: usize) -> [u32; 8]
     r
 }
 
-pub fn tally(rankings: &[u8], n: usize, k: usize, gone: Gone) -> Sheet
-    requires { ⌜ (n ≤ 8) × (k ≤ 1000) × (k * n ≤ length (now rankings)) × Listed gone ⌝ }
-    ensures { λ r. ⌜ take n (r .counts) ≡ countsOf n (table k (λ b. part (now (rankings .entry)) (b * n) n)) (listOf gone) ⌝ }
+// The counts of the counted ballots among k.
+pub fn tally(rankings: &[u8], kinds: &[u8], n: usize, k: usize, gone: Gone) -> Sheet
+    requires { ⌜ (n ≤ 8) × (k ≤ 1000) × (k * n ≤ length (now rankings)) × (k ≤ length (now kinds)) × Listed gone ⌝ }
+    ensures { λ r. ⌜ take n (r .counts) ≡ countsOf n (tableWhere k (λ b. isCounted (getD (now (kinds .entry)) b 0)) (λ b. part (now (rankings .entry)) (b * n) n)) (listOf gone) ⌝ }
 {
     let mut counts = [0u32; 8];
     for b in 0..k {
-        let at = b * n;
-        let next = voted(counts, rankings::first_in(rankings, at, n, gone));
-        counts = next;
+        if numbers::wide(kinds[b]) == layout::COUNTED {
+            let at = b * n;
+            let next = voted(counts, rankings::first_in(rankings, at, n, gone));
+            counts = next;
+        }
     }
     Sheet { counts }
 }

@@ -1,27 +1,27 @@
 -- The ballots walked one after another.
 use Prim.Native.Nat.{ℕ, suc, _+_, _≤_, _<_}
-use mathlib.Core.Path.{_≡_, refl, _∙_}
+use mathlib.Core.Path.{_≡_, refl, sym, ap, _∙_}
 use mathlib.Core.List.{List, []}
 use native.Mathlib.Omega.{arith}
 use lib.ListN.{length}
 use borrow.Author.Tests.{le-leb}
 use Rattle.numbers.proofs.Search.{extend}
 use Rattle.sha256.specs.Message.{sha256}
-use Rattle.rules.specs.Bytes.{part, number2}
-use Rattle.rules.specs.Records.{BA, headerLength, ballotLength, recordLength}
+use Rattle.rules.specs.Bytes.{part}
+use Rattle.rules.specs.Records.{kindAt, headerLength, ballotLength, recordLength}
 use Rattle.rules.specs.Tests.{firstFault}
 use Rattle.rules.specs.Header.{header}
-use Rattle.rules.specs.Check.{place, recordsRead, roundsRead}
+use Rattle.rules.specs.Check.{Position, position, place, kind}
 use Rattle.rules.specs.Receipts.{digestCount, frameFault}
 use Rattle.rules.specs.Answers.{refusalNumber}
 use Rattle.rules.specs.declared.Refusal.{Refusal}
 use Rattle.rules.proofs.Faults.{no-fault, fault-at}
-use Rattle.rules.proofs.Positions.{number-is, place-record}
+use Rattle.rules.proofs.Positions.{position-first, number-first, place-record}
 use Rattle.rules.proofs.RefusalNumbers.{positive}
 use Rattle.rules.proofs.Lists.{length-table}
 use Rattle.frames.specs.declared.Fault.{Fault}
 use Rattle.frames.specs.declared.Fault.the-variants as F
-use Rattle.frames.specs.Framed.{Framed}
+use Rattle.frames.specs.Framed.{Framed, BallotFramed}
 use Rattle.receipts.specs.declared.Walk.the-variants.{Sound, Refused}
 use Rattle.digests.specs.Order.{entered}
 use Rattle.receipts.specs.Steps.{numbersAfter, Headed, Walked}
@@ -39,14 +39,13 @@ pub record WalkedTo (s digests before after : List ℕ) (number at : ℕ) : Type
 
 module _ (s digests before : List ℕ) {n K : ℕ} (h : Headed s n K) where
   pub walked-start : length before ≡ digestCount digests → WalkedTo s digests before before 1 headerLength
-  unfolding recordsRead roundsRead numbersAfter
+  unfolding numbersAfter
   walked-start long =
-      record { k = 0; next = refl; few = omega arith; here = refl; fits = h .long; long = long; sound = λ j l. absurd (omega arith); entered = refl }
+      record { k = 0; next = refl; few = omega arith; here = sym (ap (λ (p : Position). p .place) (position-first s (header s))); fits = h .long; long = long; sound = λ j l. absurd (omega arith); entered = refl }
 
   module _ {after : List ℕ} {number at : ℕ} (w : WalkedTo s digests before after number at) where
     -- what the code asks of the frame is what the rules ask
-    frame-here : (f : Fault) → Framed s at (ballotLength n) BA (number2 s (at + 2)) number f →
-        Framed s (place s (header s) 0 (w .k)) (ballotLength (header s .n)) BA (number2 s (place s (header s) 0 (w .k) + 2)) (w .k + 1) f
+    frame-here : (f : Fault) → BallotFramed s at n number f → BallotFramed s (place s (header s) 0 (w .k)) (header s .n) (w .k + 1) f
     frame-here f t =
         let due : number ≡ w .k + 1 = omega (arith, w .next) in
         rw (w .here, h .processes, due) at t
@@ -55,26 +54,27 @@ module _ (s digests before : List ℕ) {n K : ℕ} (h : Headed s n K) where
       below : w .k < header s .K
       below = omega (arith, h .ballots, w .next)
 
-      pub walked-refused : (why : Refusal) → Framed s at (ballotLength n) BA (number2 s (at + 2)) number (F.Refused why) → Walked s digests before after (Refused why number)
-      unfolding Walked Framed
+      pub walked-refused : (why : Refusal) → BallotFramed s at n number (F.Refused why) → Walked s digests before after (Refused why number)
+      unfolding Walked BallotFramed
       walked-refused why t =
           let e : frameFault s (w .k) ≡ refusalNumber why = frame-here (F.Refused why) t [] in
-          (w .k, rw (← e) (fault-at (header s .K) (frameFault s) (w .k) below (w .sound) (λ z. omega (arith, positive why))), omega (arith, number-is s (header s) 0 (w .k), w .next), w .entered)
+          (w .k, rw (← e) (fault-at (header s .K) (frameFault s) (w .k) below (w .sound) (λ z. omega (arith, positive why))), omega (arith, number-first s (header s) (w .k), w .next), w .entered)
 
-      pub walked-more : Framed s at (ballotLength n) BA (number2 s (at + 2)) number F.Sound → (size : ℕ) → size ≡ ballotLength n → (d more : List ℕ) → d ≡ sha256 (part s at size) →
+      pub walked-more : BallotFramed s at n number F.Sound → (size : ℕ) → size ≡ ballotLength n (kindAt s at) → (d more : List ℕ) → d ≡ sha256 (part s at size) →
           more ≡ entered digests d number after → WalkedTo s digests before more (number + 1) (at + size)
-      unfolding Framed firstFault numbersAfter entered recordLength
+      unfolding BallotFramed Framed firstFault numbersAfter entered recordLength position
       walked-more t size es d more ed em =
           let f = frame-here F.Sound t in
+          let e : size ≡ ballotLength (header s .n) (kind s (header s) (w .k)) = rw (← w .here, ← h .processes) es in
           record {
             k = suc (w .k);
             next = omega (arith, w .next);
             few = below;
-            here = rw (place-record s (header s) 0 (w .k), es, ← w .here, h .processes);
-            fits = rw es (t .0);
+            here = rw (place-record s (header s) 0 (w .k), ← e, ← w .here);
+            fits = rw es (t .0 .0);
             long = rw em (length-table _ _);
-            sound = extend (λ j. frameFault s j ≡ 0) (w .k) (w .sound) (rw (le-leb _ _ (f .0), f .1, f .2));
-            entered = cc (em, ed, es, w .here, h .processes, w .next, w .entered);
+            sound = extend (λ j. frameFault s j ≡ 0) (w .k) (w .sound) (rw (le-leb _ _ (f .0 .0), f .0 .1, f .0 .2, f .1));
+            entered = cc (em, ed, e, w .here, w .next, w .entered);
           }
 
     pub walked-all : K + 1 ≤ number → Walked s digests before after Sound

@@ -33,13 +33,13 @@ fn walk_ballots(board: &[u8], n: usize, k: usize, digests: &[u8], numbers: &mut 
     requires { ⌜ Headed (now board) n k × Rising (now digests) × (length (now numbers) ≡ digestCount (now digests)) ⌝ }
     ensures { λ r. ⌜ Walked (now (board .entry)) (now (digests .entry)) (now (numbers .entry)) (now (numbers .exit)) r ⌝ }
 {
-    let size = layout::ballot_length(n);
     let mut at = layout::HEADER_LENGTH;
     for number in 1..k + 1 {
         let framed = frames::ballot_frame(board, at, n, number);
         if let Fault::Refused(why) = framed {
             return Walk::Refused(why, number);
         }
+        let size = layout::ballot_length(n, frames::kind(board, at));
         let d = digest_of(board, at, size);
         digests::enter(digests, &d, numbers::half(number), numbers);
         at += size;

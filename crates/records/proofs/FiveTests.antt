@@ -1,4 +1,4 @@
--- The five tests of a BA or SH record: those of its frame, its fields and its proofs.
+-- The five tests of an SH record: those of its frame, its fields and its proof.
 use Prim.Native.Nat.{ℕ, _+_}
 use mathlib.Core.Path.{_≡_, _∙_}
 use mathlib.Core.Bool.{Bool, true, false}

@@ -1,4 +1,5 @@
-// The BA and SH records, each with its tests in the table's order: the frame (1, 2, 6), the fields (7), the proofs (8).
+// The BA and SH records, each with its tests in the table's order: the frame (1, 2, 6; of BA 17), the fields (7), the proofs (8), and what an
+// audited BA shows (18).
 use header::Head;
 use rules::Refusal;
 use sha256::Hasher;
@@ -33,7 +34,7 @@ pub enum Passed {
     Refused(Refusal),
 }
 
-// The fields of a BA or SH record at a place: its pairs, and the branches of its proofs, one after another.
+// The fields of a BA or SH record from its pairs on: these, and the branches of its proofs, one after another.
 fn fields_good(
     board: &[u8],
     at: usize,
@@ -43,10 +44,10 @@ fn fields_good(
     p: u32,
     q: u32,
 ) -> bool
-    requires { ⌜ at + 4 + 8 * pairs + branches * (4 + 12 * statements) ≤ length (now board) ⌝ }
+    requires { ⌜ at + 8 * pairs + branches * (4 + 12 * statements) ≤ length (now board) ⌝ }
     ensures { λ r. ⌜ r ≡ fieldsAt (now (board .entry)) at pairs branches statements p q ⌝ }
 {
-    let Walk::To(proofs) = walks::pairs_fields(board, at + 4, pairs, p, q) else {
+    let Walk::To(proofs) = walks::pairs_fields(board, at, pairs, p, q) else {
         return false;
     };
     let Walk::To(_) = walks::proof_fields(board, proofs, branches, statements, p, q) else {

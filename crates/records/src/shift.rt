@@ -20,7 +20,7 @@ ghost use Rattle.records.specs.Parts.{shiftProofAt};
 // The proof, that the row with its 1 in column a is struck, of the record of round m, from 0. The inverses of the matrix before are made once.
 fn shift_proof(board: &[u8], h: Head, before: usize, at: usize, m: usize, a: usize) -> bool
     requires { ⌜ HeaderKnown ranked (now board) h × (0 < m) × (m < h .n) × (a < h .n) ⌝ }
-    requires { ⌜ (before + 4 + 8 * ((h .n - m + 1) * h .n) ≤ length (now board)) × (at + shiftLength (h .n) (h .n - m) ≤ length (now board)) ⌝ }
+    requires { ⌜ (before + 8 * ((h .n - m + 1) * h .n) ≤ length (now board)) × (at + shiftLength (h .n) (h .n - m) ≤ length (now board)) ⌝ }
     ensures { λ r. ⌜ r ≡ shiftProofAt (now (board .entry)) h before at (h .n - m) (m + 1) a ⌝ }
 {
     let n = h.n;
@@ -30,7 +30,7 @@ fn shift_proof(board: &[u8], h: Head, before: usize, at: usize, m: usize, a: usi
     let inverses = claims::inverse_table(board, group.p, group.q, before, 2 * (pairs + n));
     let claim = Claim::Shift {
         before,
-        new: at,
+        new: at + 4,
         rows,
         n,
         a,
@@ -46,7 +46,7 @@ fn shift_proof(board: &[u8], h: Head, before: usize, at: usize, m: usize, a: usi
     crate::proof_good(board, &inverses, prefix, shape, h, claim)
 }
 
-// The record in round m, from 0, of the ballot with a number, at its place; the ballot's record a round earlier stands at before, and process a
+// The record in round m, from 0, of the ballot with a number, at its place; the pairs of its record a round earlier start at before, and process a
 // went out in that round.
 pub fn read_shift(
     board: &[u8],
@@ -58,7 +58,7 @@ pub fn read_shift(
     number: usize,
 ) -> Passed
     requires { ⌜ HeaderKnown ranked (now board) h × (at ≤ length (now board)) × (0 < m) × (m < h .n) × (1 ≤ a) × (a ≤ h .n) ⌝ }
-    requires { ⌜ before + 4 + 8 * ((h .n - m + 1) * h .n) ≤ length (now board) ⌝ }
+    requires { ⌜ before + 8 * ((h .n - m + 1) * h .n) ≤ length (now board) ⌝ }
     ensures { λ r. ⌜ Passes (now (board .entry)) (shiftFault sha256 (now (board .entry)) (headOf (now (board .entry)) h) (h .n - m) at (m + 1) a before number) (at + shiftLength (h .n) (h .n - m)) r ⌝ }
 {
     let n = h.n;
@@ -70,7 +70,7 @@ pub fn read_shift(
         return Passed::Refused(why);
     }
     let pairs = rows * n;
-    if !crate::fields_good(board, at, pairs, rows + 1, 2 + pairs, group.p, group.q) {
+    if !crate::fields_good(board, at + 4, pairs, rows + 1, 2 + pairs, group.p, group.q) {
         return Passed::Refused(Refusal::Field);
     }
     if !shift_proof(board, h, before, at, m, a - 1) {

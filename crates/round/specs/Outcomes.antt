@@ -8,7 +8,7 @@ use lib.ListN.{length}
 use Rattle.sha256.specs.Message.{sha256}
 use Rattle.rules.specs.Count.{closes, leaves, next, ended}
 use Rattle.rules.specs.Tests.{faultBelow}
-use Rattle.rules.specs.Check.{Verdict, accepted, refused, position, place, recordNumber, roundVerdict, counts, recordFault}
+use Rattle.rules.specs.Check.{Verdict, accepted, refused, position, place, recordNumber, roundVerdict, counts, counted, recordFault}
 use Rattle.rules.specs.Answers.{refusalNumber}
 use Rattle.count.specs.declared.Count.{Count}
 use Rattle.count.specs.State.{standingOf, resultOf, Kept}
@@ -25,11 +25,12 @@ use Rattle.round.specs.declared.RoundRead.{RoundRead}
 
 module _ (s : List ℕ) (h : Head) (a m : ℕ) where
   -- the ballots' records: none has a fault, and the sheet is next; or the first that has one, its fault, its place and its number. The products are
-  -- those of the records before it.
+  -- those of the counted ballots before it, or of all.
   unfoldable pub Searched : Fault → (at number : ℕ) → Tally → Type 0
   Searched F.Sound at number t =
       (faultBelow (h .k) (recordFault sha256 s (headOf s h) a m) ≡ none) × (at ≡ place s (headOf s h) m (h .k)) × (at ≤ length s)
       × (number ≡ recordNumber s (headOf s h) m (h .k)) × Tallied (h .setup .group .p) (h .n) t (position s (headOf s h) m (h .k) .tally)
+      × (t .ballots ≡ counted s (headOf s h))
   Searched (F.Refused w) at number t =
       (k : ℕ) × (k < h .k) × (faultBelow (h .k) (recordFault sha256 s (headOf s h) a m) ≡ some (k, refusalNumber w))
       × (at ≡ place s (headOf s h) m k) × (at ≤ length s)
@@ -43,7 +44,7 @@ module _ (s : List ℕ) (h : Head) (a m : ℕ) where
 unfoldable pub RoundComes : (s : List ℕ) → Head → (before : Count) (m a : ℕ) → RoundOutcome → (handed : Count) → Type 0
 RoundComes s h before m a (Open out at number) handed =
     ((after : Verdict) → roundVerdict sha256 s (headOf s h) (standingOf (h .n) before) m a after ≡ after)
-    × (closes (h .n) (standingOf (h .n) before) (counts s (headOf s h) m) (h .k) ≡ false)
+    × (closes (h .n) (standingOf (h .n) before) (counts s (headOf s h) m) (counted s (headOf s h)) ≡ false)
     × (at ≡ place s (headOf s h) (suc m) 0) × (at ≤ length s) × (number ≡ recordNumber s (headOf s h) (suc m) 0)
     × (out ≡ leaves (h .n) (standingOf (h .n) before) (counts s (headOf s h) m)) × (out ≤ h .n)
     × (handed .gone .outs ≡ before .gone .outs + 1) × Kept handed

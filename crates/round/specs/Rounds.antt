@@ -14,6 +14,13 @@ firstRound = record { m = 0; number = 1; a = 0; before = 0 }
 abbrev pub nextRound : Round → (number a at : ℕ) → Round
 nextRound r number a at = record { m = r .m + 1; number = number; a = a; before = at }
 
+-- a further round, ahead of which process a went out
+pub record Later (h : Head) (r : Round) : Type 0 where
+  pub further : 0 < r .m
+  pub early : r .m + 1 < h .n
+  pub low : 1 ≤ r .a
+  pub high : r .a ≤ h .n
+
 -- a round is read from the position where the walk has it; so was the round before, in which a went out
 pub record Begins (s : List ℕ) (h : Head) (at : ℕ) (r : Round) : Type 0 where
   pub here : at ≡ place s (headOf s h) (r .m) 0

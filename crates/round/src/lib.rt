@@ -1,4 +1,4 @@
-// One round: its ballots' records one after another, then its sheet.
+// One round: what a ballot has in it, what is carried from ballot to ballot, and its end with its sheet.
 use count::Count;
 use frames::Fault;
 use header::Head;
@@ -9,16 +9,16 @@ use rules::Refusal;
 use sheets::Outcome;
 use sheets::tally::Tally;
 ghost use mathlib.Core.Path.{_≡_};
-ghost use Prim.Native.Nat.{ℕ, suc, _+_, _*_, _-_, _≤_, _<_};
+ghost use mathlib.Core.Bool.{cond};
+ghost use Prim.Native.Nat.{ℕ, suc, _+_, _*_, _^_, _≤_, _<_};
 ghost use lib.ListN.{length};
-ghost use Rattle.sha256.specs.Message.{sha256};
-ghost use Rattle.rules.specs.Records.{recordLength};
+ghost use Rattle.rules.specs.Records.{kindAt, isCounted, pairsFrom, recordLength};
 ghost use Rattle.rules.specs.Header.{ranked};
-ghost use Rattle.rules.specs.Check.{place, recordFault};
 ghost use Rattle.count.specs.State.{Kept};
-ghost use Rattle.header.specs.Heads.{headOf, HeaderKnown};
-ghost use Rattle.records.specs.Passes.{Passes};
-ghost use Rattle.round.specs.Rounds.{firstRound, nextRound, Begins};
+ghost use Rattle.statements.specs.Values.{Ready};
+ghost use Rattle.header.specs.Heads.{HeaderKnown};
+ghost use Rattle.round.specs.Rounds.{firstRound, nextRound, Begins, Later};
+ghost use Rattle.round.specs.Walks.{Walked, Starts, RecordPasses, TallyAfter};
 ghost use Rattle.round.specs.Outcomes.{RecordsReads, Rounded};
 
 // Round m, from 0, and the number of its first record. In the round before, whose ballots' records start at before, process a went out; in
@@ -57,7 +57,7 @@ impl Round {
 }
 
 // What the ballots' records of a round come to: the first refusal, or none; the place and the number of the record refused, or of the sheet;
-// and the products of the first rows, each a group::Element.
+// and the products of the first rows of counted ballots, each a group::Element.
 pub struct RecordsRead {
     pub fault: Fault,
     pub next: usize,
@@ -80,67 +80,138 @@ pub struct RoundRead {
     pub count: Count,
 }
 
-// Ballot k's record of the round, at its place; that of the round before stands at before.
-fn read_record(board: &[u8], h: Head, round: Round, before: usize, at: usize, k: usize) -> Passed
-    requires { ⌜ HeaderKnown ranked (now board) h × (at ≤ length (now board)) × (k < h .k) × (round .m + 1 < h .n) × (at ≡ place (now board) (headOf (now board) h) (round .m) k) ⌝ }
-    requires { ⌜ ((e : ℕ) → round .m ≡ suc e → (1 ≤ round .a) × (round .a ≤ h .n) × (before ≡ place (now board) (headOf (now board) h) e k) × (before + 4 + 8 * ((h .n - e) * h .n) ≤ length (now board))) ⌝ }
-    ensures { λ r. ⌜ Passes (now (board .entry)) (recordFault sha256 (now (board .entry)) (headOf (now (board .entry)) h) (round .a) (round .m) k) (at + recordLength (h .n) (round .m)) r ⌝ }
-{
-    let m = round.m;
-    if m == 0 {
-        return ballot::read_ballot(board, h, at, k + 1);
-    }
-    shift::read_shift(board, h, m, round.a, before, at, k + 1)
+// How far a round is read, beside the next unread place: the ballot that is next, from 0; the number of its record in the round; where its record
+// of the round before starts, 0 in round 0, and its BA; and the products of the first rows so far.
+pub struct Walk {
+    pub k: usize,
+    pub number: usize,
+    pub before: usize,
+    pub ballot: usize,
+    pub tally: Tally,
 }
 
-// The length of a ballot's record in the round before round m; 0 ahead of the first.
-fn earlier_length(n: usize, m: usize) -> usize
+// How many ballots are counted up to the one that is next, itself among them.
+fn counted_after(board: &[u8], walk: Walk) -> usize
+    requires { ⌜ (walk .ballot ≤ length (now board)) × (walk .tally .ballots ≤ 1000) ⌝ }
+    ensures { λ r. ⌜ r ≡ walk .tally .ballots + cond (isCounted (kindAt (now (board .entry)) (walk .ballot))) 1 0 ⌝ }
+{
+    let ballots = walk.tally.ballots;
+    if frames::kind(board, walk.ballot) == layout::COUNTED {
+        return ballots + 1;
+    }
+    ballots
+}
+
+// The BA of the ballot that is next; of the last one also whether any is counted.
+fn read_first(board: &[u8], at: usize, h: Head, round: Round, walk: Walk) -> Passed
+    requires { ⌜ HeaderKnown ranked (now board) h × Walked (now board) h round at walk × (walk .k < h .k) × (round .m ≡ 0) ⌝ }
+    ensures { λ r. ⌜ RecordPasses (now (board .entry)) h (round .a) (round .m) (walk .k) at r ⌝ }
+{
+    let number = walk.k + 1;
+    let read = ballot::read_ballot(board, h, at, number);
+    match read {
+        Passed::Refused(why) => Passed::Refused(why),
+        Passed::To(next) => {
+            if number == h.k {
+                if counted_after(board, walk) == 0 {
+                    return Passed::Refused(Refusal::NoneCounted);
+                }
+            }
+            Passed::To(next)
+        }
+    }
+}
+
+// What the ballot that is next has in a further round: its SH, where it is counted.
+fn read_later(board: &[u8], at: usize, h: Head, round: Round, walk: Walk) -> Passed
+    requires { ⌜ HeaderKnown ranked (now board) h × Walked (now board) h round at walk × (walk .k < h .k) × Later h round ⌝ }
+    ensures { λ r. ⌜ RecordPasses (now (board .entry)) h (round .a) (round .m) (walk .k) at r ⌝ }
+{
+    let m = round.m;
+    if frames::kind(board, walk.ballot) != layout::COUNTED {
+        return Passed::To(at);
+    }
+    let before = layout::pairs_from(m - 1, walk.before);
+    shift::read_shift(board, h, m, round.a, before, at, walk.k + 1)
+}
+
+// What the ballot that is next has in the round, at the next place.
+pub fn read_record(board: &[u8], at: usize, h: Head, round: Round, walk: Walk) -> Passed
+    requires { ⌜ HeaderKnown ranked (now board) h × Walked (now board) h round at walk × (walk .k < h .k) × (round .m + 1 < h .n) × (0 < round .m → Later h round) ⌝ }
+    ensures { λ r. ⌜ RecordPasses (now (board .entry)) h (round .a) (round .m) (walk .k) at r ⌝ }
+{
+    if round.m == 0 {
+        return read_first(board, at, h, round, walk);
+    }
+    read_later(board, at, h, round, walk)
+}
+
+// The length of what a ballot of a kind has in the round before round m; 0 ahead of the first.
+fn earlier_length(n: usize, kind: usize, m: usize) -> usize
     requires { ⌜ (n ≤ 8) × (m < n) ⌝ }
-    ensures { λ r. ⌜ (r ≤ 10000) × (m ≡ 0 → r ≡ 0) × ((e : ℕ) → m ≡ suc e → r ≡ recordLength n e) ⌝ }
+    ensures { λ r. ⌜ (r ≤ 10000) × (m ≡ 0 → r ≡ 0) × ((e : ℕ) → m ≡ suc e → r ≡ recordLength n kind e) ⌝ }
 {
     if m == 0 {
         return 0;
     }
-    layout::record_length(n, m - 1)
+    layout::record_length(n, kind, m - 1)
 }
 
-// The ballots' records of a round that starts at a place, each where the one before it ends.
-pub fn read_records(board: &[u8], at: usize, h: Head, round: Round) -> RecordsRead
-    requires { ⌜ HeaderKnown ranked (now board) h × Begins (now board) h at round ⌝ }
-    ensures { λ r. ⌜ RecordsReads (now (board .entry)) h (round .a) (round .m) r ⌝ }
+// The products, with the first row of the record at a place where its ballot is counted.
+fn tally_after(board: &[u8], at: usize, h: Head, m: usize, kind: usize, tally: Tally) -> Tally
+    requires { ⌜ Ready (h .setup) × (h .n ≤ 8) × (at < 2 ^ 63) × (length (tally .b) ≡ 8) × (length (tally .y) ≡ 8) × (tally .ballots < 1000) ⌝ }
+    requires { ⌜ (kind ≡ 0 → pairsFrom m at + 8 * h .n ≤ length (now board)) ⌝ }
+    ensures { λ r. ⌜ TallyAfter (now (board .entry)) h m kind at tally r ⌝ }
 {
-    let head = h;
-    let here = round;
-    let count = h.k;
-    let earlier = earlier_length(h.n, round.m);
-    let mut place = at;
-    let mut before = round.before;
-    let mut number = round.number;
-    let mut tally = Tally::none(h);
-    for k in 0..count {
-        let read = read_record(board, head, here, before, place, k);
-        match read {
-            Passed::Refused(why) => {
-                return RecordsRead {
-                    fault: Fault::Refused(why),
-                    next: place,
-                    number,
-                    tally,
-                };
-            }
-            Passed::To(next) => {
-                let more = tally.with_row(board, head, place);
-                tally = more;
-                place = next;
-                before += earlier;
-                number += 1;
-            }
-        }
+    if kind != layout::COUNTED {
+        return tally;
     }
+    tally.with_row(board, h, layout::pairs_from(m, at))
+}
+
+// Past the record that was read at a place and ends at another.
+pub fn past_record(board: &[u8], at: usize, h: Head, round: Round, walk: Walk, next: usize) -> Walk
+    requires { ⌜ HeaderKnown ranked (now board) h × Walked (now board) h round at walk × (walk .k < h .k) × (round .m + 1 < h .n) ⌝ }
+    requires { ⌜ RecordPasses (now board) h (round .a) (round .m) (walk .k) at (Passed.To next) ⌝ }
+    ensures { λ r. ⌜ Walked (now (board .entry)) h round next r × (r .k ≡ walk .k + 1) ⌝ }
+{
+    let n = h.n;
+    let m = round.m;
+    let kind = frames::kind(board, walk.ballot);
+    let so_far = walk.tally;
+    let tally = tally_after(board, at, h, m, kind, so_far);
+    Walk {
+        k: walk.k + 1,
+        number: walk.number + layout::records_of(kind, m),
+        before: walk.before + earlier_length(n, kind, m),
+        ballot: walk.ballot + layout::ballot_length(n, kind),
+        tally,
+    }
+}
+
+// Ahead of the first ballot of a round.
+pub fn ahead(h: Head, round: Round) -> Walk
+    requires { ⌜ Ready (h .setup) ⌝ }
+    ensures { λ r. ⌜ Starts h round r ⌝ }
+{
+    Walk {
+        k: 0,
+        number: round.number,
+        before: round.before,
+        ballot: layout::HEADER_LENGTH,
+        tally: Tally::none(h),
+    }
+}
+
+// What was read up to a place.
+pub fn read_so_far(fault: Fault, next: usize, walk: Walk) -> RecordsRead
+    ensures { λ r. ⌜ (r .fault ≡ fault) × (r .next ≡ next) × (r .number ≡ walk .number) × (r .tally ≡ walk .tally) ⌝ }
+{
+    let tally = walk.tally;
     RecordsRead {
-        fault: Fault::Sound,
-        next: place,
-        number,
+        fault,
+        next,
+        number: walk.number,
         tally,
     }
 }

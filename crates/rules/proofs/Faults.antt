@@ -96,6 +96,16 @@ pub fault-is : (P : ℕ → Type 0) (t : Test) (ts : List Test) → (t .holds �
 unfolding firstFault
 fault-is P t ts here later = by-cases (t .holds) (λ e. rw e later) (λ e. rw e (here e))
 
+-- where the first tests hold, the fault is that of the rest
+abbrev pub Positive : List Test → Type 0
+Positive [] = Unit
+Positive (t ∷ ts) = (0 < t .refusal) × Positive ts
+
+pub fault-rest : (ts us : List Test) → Positive ts → firstFault ts ≡ 0 → firstFault (ts ++ us) ≡ firstFault us
+unfolding firstFault
+fault-rest [] us pos e = refl
+fault-rest (t ∷ ts) us pos e = let w = first-holds t ts (pos .0) e in rw (w .0) (fault-rest ts us (pos .1) (w .1))
+
 -- the fault of the first tests is that of all
 pub fault-front : (ts us : List Test) → (firstFault ts ≡ 0 → ⊥) → firstFault (ts ++ us) ≡ firstFault ts
 unfolding firstFault

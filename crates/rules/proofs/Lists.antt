@@ -2,7 +2,7 @@
 use Prim.Native.Nat.{ℕ, zero, suc, _+_, _≤_, _<_}
 use mathlib.Core.Path.{_≡_, refl, sym, ap, ap₂, _∙_}
 use mathlib.Core.Bool.{Bool, true, false, cond, _||_, false≢true, or-assoc}
-use mathlib.Core.List.{List, [], _∷_, _++_}
+use mathlib.Core.List.{List, [], _∷_, _++_, append-nil}
 use native.Mathlib.Omega.{arith}
 use lib.Dec.{eqb}
 use lib.ListN.{length, getD, length-append, List·getD-append}
@@ -10,7 +10,8 @@ use lib.Seq.{getD-at}
 use borrow.Author.Tests.{eq-eqb, ne-eqb, eqb-true, eqb-false}
 use Rattle.numbers.specs.Below.{sumBelow}
 use Rattle.numbers.proofs.Search.{extend}
-use Rattle.rules.specs.Count.{member, table, firstIn, votesFor}
+use Rattle.numbers.proofs.Tests.{by-cases}
+use Rattle.rules.specs.Count.{member, table, tableWhere, firstIn, votesFor}
 use Rattle.rules.specs.Openings.{without}
 
 pub eqb-sym : (a b : ℕ) → eqb a b ≡ eqb b a
@@ -35,6 +36,14 @@ module _ {ℓ} {A : Type ℓ} where
   length-table zero f = refl
   length-table (suc n) f = simp (length-append, length-table n f) (omega arith)
 
+  pub length-where : (n : ℕ) (p : ℕ → Bool) (f : ℕ → A) → length (tableWhere n p f) ≡ sumBelow n (λ i. cond (p i) 1 0)
+  unfolding tableWhere sumBelow
+  length-where zero p f = refl
+  length-where (suc n) p f =
+      by-cases (p n)
+      (λ e. rw e (omega (arith, length-append (tableWhere n p f) (f n ∷ []), length-where n p f)))
+      (λ e. rw e (omega (arith, length-append (tableWhere n p f) [], length-where n p f)))
+
   pub table-at : (n : ℕ) (f : ℕ → A) (d : A) (i : ℕ) → i < n → getD (table n f) i d ≡ f i
   unfolding table
   table-at zero f d i l = absurd (omega arith)
@@ -48,6 +57,11 @@ module _ {ℓ} {A : Type ℓ} where
   table-same zero f g h = refl
   table-same (suc n) f g h = ap₂ (λ t x. t ++ (x ∷ [])) (table-same n f g (λ i l. h i (omega arith))) (h n (omega arith))
 
+  pub where-same : (n : ℕ) (p q : ℕ → Bool) (f : ℕ → A) → ((i : ℕ) → i < n → p i ≡ q i) → tableWhere n p f ≡ tableWhere n q f
+  unfolding tableWhere
+  where-same zero p q f h = refl
+  where-same (suc n) p q f h = ap₂ (λ t b. t ++ cond b (f n ∷ []) []) (where-same n p q f (λ i l. h i (omega arith))) (h n (omega arith))
+
 -- ---- votes
 votes-append : (n : ℕ) (gone : List ℕ) (rs : List (List ℕ)) (r : List ℕ) (c : ℕ) →
     votesFor n gone (rs ++ (r ∷ [])) c ≡ votesFor n gone rs c + cond (eqb (firstIn n gone r) c) 1 0
@@ -55,11 +69,15 @@ unfolding votesFor
 votes-append n gone [] r c = omega arith
 votes-append n gone (x ∷ rs) r c = let h = votes-append n gone rs r c in omega arith
 
-pub votes-table : (n : ℕ) (gone : List ℕ) (K : ℕ) (r : ℕ → List ℕ) (c : ℕ) →
-    votesFor n gone (table K r) c ≡ sumBelow K (λ k. cond (eqb (firstIn n gone (r k)) c) 1 0)
-unfolding table sumBelow votesFor
-votes-table n gone zero r c = refl
-votes-table n gone (suc K) r c = votes-append n gone (table K r) (r K) c ∙ ap (λ (t : ℕ). t + cond (eqb (firstIn n gone (r K)) c) 1 0) (votes-table n gone K r c)
+-- of the rankings that a test picks
+pub votes-where : (n : ℕ) (gone : List ℕ) (K : ℕ) (p : ℕ → Bool) (r : ℕ → List ℕ) (c : ℕ) →
+    votesFor n gone (tableWhere K p r) c ≡ sumBelow K (λ k. cond (p k) (cond (eqb (firstIn n gone (r k)) c) 1 0) 0)
+unfolding tableWhere sumBelow votesFor
+votes-where n gone zero p r c = refl
+votes-where n gone (suc K) p r c =
+    by-cases (p K)
+    (λ e. rw e (votes-append n gone (tableWhere K p r) (r K) c ∙ ap (λ (t : ℕ). t + cond (eqb (firstIn n gone (r K)) c) 1 0) (votes-where n gone K p r c)))
+    (λ e. rw (e, append-nil) (omega (arith, votes-where n gone K p r c)))
 
 -- ---- membership
 pub member-append : (x : ℕ) (xs ys : List ℕ) → member x (xs ++ ys) ≡ (member x xs || member x ys)

@@ -2,7 +2,7 @@
 use Prim.Native.Nat.{ℕ, _-_, _*_, _/_, _%_, _^_, _<_}
 use mathlib.Core.Path.{_≡_, sym, ap, _∙_}
 use mathlib.Core.List.{List}
-use mathlib.Core.Bool.{true, and-eq-true-iff}
+use mathlib.Core.Bool.{Bool, true, false, cond, and-eq-true-iff}
 use native.Mathlib.Nat.{mul-comm, mod-mod, mod-eq-of-lt, zero-mod, div-add-mod, pos-of-ne-zero, zero-mul}
 use native.Mathlib.Omega.{arith}
 use lib.Dec.{eqb}
@@ -64,6 +64,11 @@ generators-of-test hash label counter g o h =
       apart1 = λ e. eqb-false (g .g1) 1 (not-true (eqb (g .g1) 1) (w .0 .1)) (sym whole ∙ e);
     }
 
+-- v = 1 and v = 0 are below q
+pub bit-below : {n K p q : ℕ} → Orders n K p q → (b : Bool) → cond b 1 0 < q
+bit-below o true = o .prime-q .large
+bit-below o false = omega (arith, o .prime-q .large)
+
 module _ {n K p q g0 g1 : ℕ} (o : Orders n K p q) (w : Generators p q g0 g1) where
   positive-q : 0 < q
   positive-q = omega (arith, o .prime-q .large)
@@ -79,3 +84,10 @@ module _ {n K p q g0 g1 : ℕ} (o : Orders n K p q) (w : Generators p q g0 g1) w
 
   pub same-count : (x x′ v v′ : ℕ) → v < q → v′ < q → g0 ^ x * g1 ^ v % p ≡ g0 ^ x′ * g1 ^ v′ % p → g1 ^ x % p ≡ g1 ^ x′ % p → v ≡ v′
   same-count x x′ v v′ l l′ b y = cc (same-opening x x′ v v′ b y, mod-eq-of-lt l, mod-eq-of-lt l′)
+
+  -- and so, below q, itself
+  pub same-pair : (x x′ v v′ : ℕ) → x < q → x′ < q → v < q → v′ < q → g0 ^ x * g1 ^ v % p ≡ g0 ^ x′ * g1 ^ v′ % p → g1 ^ x % p ≡ g1 ^ x′ % p → (x ≡ x′) × (v ≡ v′)
+  same-pair x x′ v v′ a a′ l l′ b y = (
+    cc (same-exponent p q g1 (w .order1) (o .prime-q) (w .apart1) x x′ y, mod-eq-of-lt a, mod-eq-of-lt a′),
+    same-count x x′ v v′ l l′ b y,
+  )

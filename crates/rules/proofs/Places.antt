@@ -2,13 +2,13 @@
 use Prim.Native.Nat.{ℕ, zero, suc, _+_, _*_, _/_, _%_, _<_}
 use native.Mathlib.Nat.{add-assoc, add-zero, zero-add, mod-eq-of-lt, div-add-mod', not-suc-le-zero, eq-or-lt-of-le, le-of-suc-le-suc, div-div-eq-div-mul, div-lt-iff-lt-mul}
 use native.Mathlib.Omega.{arith}
-use mathlib.Core.Path.{_≡_, sym, _∙_}
-use mathlib.Core.List.{List, _∷_, _++_}
+use mathlib.Core.Path.{_≡_, refl, sym, _∙_}
+use mathlib.Core.List.{List, [], _∷_, _++_}
 use mathlib.Core.Logic.{_⊎_, inl, inr}
 use lib.ListN.{length, getD, drop, length-append, List·getD-append, length-take, length-drop}
 use lib.Seq.{getD-append-add, getD-drop, getD-take, ext-getD}
-use Rattle.numbers.specs.Below.{concatBelow}
-use Rattle.numbers.proofs.Blocks.{length-blocks}
+use Rattle.numbers.specs.Below.{sumBelow, concatBelow}
+use Rattle.numbers.proofs.Blocks.{length-blocks, length-joined}
 use Rattle.rules.specs.Bytes.{part, number2, number4, bytes2, bytes4, Stands}
 
 pub stands-whole : (s : List ℕ) → Stands s 0 s
@@ -39,6 +39,17 @@ stands-block {s} {at} (suc k) w f e h i l = go (stands-block k w f below (stands
 
     go : (i < k → Stands s (at + i * w) (f i)) → (i ≡ k) ⊎ (i < k) → Stands s (at + i * w) (f i)
     go rec (inl q) = rw q (stands-right (concatBelow k f) (f k) (length-blocks k w f below) h)
+    go rec (inr g) = rec g
+
+-- lists of any lengths, one after another
+pub stands-piece : {s : List ℕ} {at : ℕ} (k : ℕ) (f : ℕ → List ℕ) → Stands s at (concatBelow k f) →
+    (i : ℕ) → i < k → Stands s (at + sumBelow i (λ j. length (f j))) (f i)
+unfolding concatBelow
+stands-piece zero f h i l = absurd (not-suc-le-zero l)
+stands-piece {s} {at} (suc k) f h i l = go (stands-piece k f (stands-left (concatBelow k f) _ h) i) (eq-or-lt-of-le (le-of-suc-le-suc l))
+  where
+    go : (i < k → Stands s (at + sumBelow i (λ j. length (f j))) (f i)) → (i ≡ k) ⊎ (i < k) → Stands s (at + sumBelow i (λ j. length (f j))) (f i)
+    go rec (inl q) = rw q (stands-right (concatBelow k f) (f k) (length-joined k f) h)
     go rec (inr g) = rec g
 
 -- four digits to the base 256
@@ -73,3 +84,12 @@ module _ {s : List ℕ} {at : ℕ} where
       rw (e0, e1, e2, e3, m)
       (digits x (x / 256) (x / 65536) (x / 16777216) (x % 256) (x / 256 % 256) (x / 65536 % 256) (div-add-mod' x 256)
       (rw (← d1) (div-add-mod' (x / 256) 256)) (rw (← d2) (div-add-mod' (x / 65536) 256)))
+
+-- a list is its places, one after another
+pub places-joined : (n : ℕ) (r : List ℕ) → length r ≡ n → concatBelow n (λ i. getD r i 0 ∷ []) ≡ r
+places-joined n r e =
+    let f : ℕ → List ℕ = λ i. getD r i 0 ∷ [] in
+    let long : length (concatBelow n f) ≡ n * 1 = length-blocks n 1 f (λ _ _. refl) in
+    let at : (i : ℕ) → i * 1 ≡ i = λ i. omega arith in
+    ext-getD 0 (concatBelow n f) r (omega arith)
+    (λ i l. rw (zero-add (i * 1), at i) at (byte-stands (stands-block n 1 f (λ _ _. refl) (stands-whole (concatBelow n f)) i (omega arith))))

@@ -22,8 +22,11 @@ positive R.Rankings = lit< tt
 positive R.Draws = lit< tt
 positive R.Output = lit< tt
 positive R.Digests = lit< tt
+positive R.Kind = lit< tt
+positive R.Opening = lit< tt
+positive R.NoneCounted = lit< tt
 
-pub number-most : (w : Refusal) → refusalNumber w ≤ 16
+pub number-most : (w : Refusal) → refusalNumber w ≤ 19
 number-most R.Length = lit≤ tt
 number-most R.Mark = lit≤ tt
 number-most R.Sizes = lit≤ tt
@@ -40,3 +43,6 @@ number-most R.Rankings = lit≤ tt
 number-most R.Draws = lit≤ tt
 number-most R.Output = lit≤ tt
 number-most R.Digests = lit≤ tt
+number-most R.Kind = lit≤ tt
+number-most R.Opening = lit≤ tt
+number-most R.NoneCounted = lit≤ tt

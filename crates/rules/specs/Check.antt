@@ -1,16 +1,17 @@
 -- Where a board stops: its records in the order in which they are read, and the verdict.
 use Prim.Native.Nat.{ℕ, zero, suc, _+_, _-_}
-use mathlib.Core.Bool.{cond}
-use mathlib.Core.List.{List}
+use mathlib.Core.Bool.{Bool, cond, not, _||_}
+use mathlib.Core.List.{List, [], _∷_, _++_}
 use mathlib.Core.Option.{none, some}
 use lib.Dec.{eqb}
 use lib.ListN.{length}
-use Rattle.rules.specs.Records.{headerLength, recordLength, sheetLength}
+use Rattle.numbers.specs.Below.{sumBelow}
+use Rattle.rules.specs.Records.{headerLength, kindAt, isCounted, recordsOf, recordLength, sheetLength, pairsFrom}
 use Rattle.rules.specs.Claims.{Matrix, matrixAt}
 use Rattle.rules.specs.Count.{Standing, start, next, leaves, wins, closes}
-use Rattle.rules.specs.Tests.{faultBelow}
+use Rattle.rules.specs.Tests.{firstFault, faultBelow, _orElse_}
 use Rattle.rules.specs.Header.{ranked, Header, header, headerFault}
-use Rattle.rules.specs.Ballot.{ballotFault}
+use Rattle.rules.specs.Ballot.{ballotTests}
 use Rattle.rules.specs.Shift.{shiftFault}
 use Rattle.rules.specs.Sheet.{Tally, noRow, withRow, outAt, countAt, exponentAt, countsAt, sheetFault}
 use Rattle.rules.specs.declared.Model.{Model}
@@ -27,30 +28,50 @@ pub record Position : Type 0 where
   pub number : ℕ
   pub tally : Tally
 
--- "A board is HD, K BA numbered 1 to K, RT; each further round is K SH, numbered alike, then RT.": each record stands where the one before it ends
+-- past the header
+abbrev pub pastHeader : Position
+pastHeader = record { place = headerLength; number = 1; tally = noRow }
+
+-- "A board is HD, K BA numbered 1 to K, RT; each further round is K SH, numbered alike, then RT."; 02, L5: an audited ballot "has no SH (the others
+-- keep their numbers) and enters no product". Each record stands where the one before it ends.
 module _ (s : List ℕ) (h : Header) where
-  -- past the record of a ballot in round m
-  abbrev pub pastRecord : (m : ℕ) → Position → Position
-  pastRecord m w =
-      record { place = w .place + recordLength (h .n) m; number = w .number + 1; tally = withRow (w .tally) (matrixAt s (h .n) (w .place)) }
+  -- past what a ballot of a kind has in round m
+  abbrev pub pastRecord : (m kind : ℕ) → Position → Position
+  pastRecord m kind w =
+      record {
+        place = w .place + recordLength (h .n) kind m;
+        number = w .number + recordsOf kind m;
+        tally = cond (isCounted kind) (withRow (w .tally) (matrixAt s (h .n) (pairsFrom m (w .place)))) (w .tally);
+      }
 
   -- past a sheet
   abbrev pub pastSheet : Position → Position
   pastSheet w = record { place = w .place + sheetLength (h .n); number = w .number + 1; tally = noRow }
 
-  -- past the first k records of round m, which starts at a position
-  unfoldable pub recordsRead : (m : ℕ) → Position → (k : ℕ) → Position
-  recordsRead m w zero = w
-  recordsRead m w (suc k) = pastRecord m (recordsRead m w k)
+  -- past the first k ballots, each of the kind that its record shows
+  unfoldable pub ballotsRead : (k : ℕ) → Position
+  ballotsRead zero = pastHeader
+  ballotsRead (suc k) = pastRecord 0 (kindAt s (ballotsRead k .place)) (ballotsRead k)
 
-  -- past the rounds before round m
-  unfoldable pub roundsRead : (m : ℕ) → Position
-  roundsRead zero = record { place = headerLength; number = 1; tally = noRow }
-  roundsRead (suc m) = pastSheet (recordsRead m (roundsRead m) (h .K))
+  -- the kind of ballot k, and the number of counted ones among the first k, and of all
+  abbrev pub kind : (k : ℕ) → ℕ
+  kind k = kindAt s (ballotsRead k .place)
 
-  -- ahead of ballot k's record in round m; with k = K, of the sheet
-  abbrev pub position : (m k : ℕ) → Position
-  position m k = recordsRead m (roundsRead m) k
+  abbrev pub countedBelow : (k : ℕ) → ℕ
+  countedBelow k = sumBelow k (λ i. cond (isCounted (kind i)) 1 0)
+
+  abbrev pub counted : ℕ
+  counted = countedBelow (h .K)
+
+  -- past the first k ballots' shifts of a further round m, which starts at a position
+  unfoldable pub shiftsRead : (m : ℕ) → Position → (k : ℕ) → Position
+  shiftsRead m w zero = w
+  shiftsRead m w (suc k) = pastRecord m (kind k) (shiftsRead m w k)
+
+  -- ahead of what ballot k has in round m; with k = K, of the sheet
+  unfoldable pub position : (m k : ℕ) → Position
+  position zero k = ballotsRead k
+  position (suc m) k = shiftsRead (suc m) (pastSheet (position m (h .K))) k
 
   abbrev pub place : (m k : ℕ) → ℕ
   place m k = position m k .place
@@ -58,9 +79,12 @@ module _ (s : List ℕ) (h : Header) where
   abbrev pub recordNumber : (m k : ℕ) → ℕ
   recordNumber m k = position m k .number
 
-  -- the matrix of ballot k in round m
+  -- where the pairs of ballot k's record in round m start, and its matrix
+  abbrev pub pairsPlace : (m k : ℕ) → ℕ
+  pairsPlace m k = pairsFrom m (place m k)
+
   abbrev pub matrix : (m k : ℕ) → Matrix
-  matrix m k = matrixAt s (h .n) (place m k)
+  matrix m k = matrixAt s (h .n) (pairsPlace m k)
 
   -- of the sheet of round m
   abbrev pub outField : (m : ℕ) → ℕ
@@ -77,35 +101,42 @@ module _ (s : List ℕ) (h : Header) where
 
   -- the fault of the sheet of round m; due: what its out field is to hold
   abbrev pub roundSheetFault : (m due : ℕ) → ℕ
-  roundSheetFault m due = sheetFault s h (place m (h .K)) (m + 1) (position m (h .K) .tally) due
+  roundSheetFault m due = sheetFault s h (place m (h .K)) (m + 1) counted (position m (h .K) .tally) due
 
   -- past the sheet of the round m that closes the board: "with 12, the number of records read"
   abbrev pub ending : Standing → (m : ℕ) → Verdict
   ending st m =
-      cond (eqb (length s) (roundsRead (suc m) .place))
+      cond (eqb (length s) (place (suc m) 0))
       (accepted (m + 1) (st .gone) (wins (h .n) st (counts m)))
-      (refused 12 (roundsRead (suc m) .number))
+      (refused 12 (recordNumber (suc m) 0))
 
--- "A closing sheet has out = 0"; otherwise out is the process that leaves
-abbrev pub due : Header → Standing → (counts : List ℕ) → ℕ
-due h st cs = cond (closes (h .n) st cs (h .K)) 0 (leaves (h .n) st cs)
+  -- 19, "a board with nothing counted (after the last BA, and naming it ..)": of the last ballot's record
+  abbrev pub someCounted : (k : ℕ) → Bool
+  someCounted k = not (eqb (k + 1) (h .K)) || not (eqb counted 0)
+
+-- "A closing sheet has out = 0"; otherwise out is the process that leaves; C ballots are counted, and "majority .. over counted ballots" (02, L5)
+abbrev pub due : (n C : ℕ) → Standing → (counts : List ℕ) → ℕ
+due n C st cs = cond (closes n st cs C) 0 (leaves n st cs)
 
 module _ (hash : List ℕ → List ℕ) (s : List ℕ) where
   module _ (h : Header) where
-    -- ballot k's record in round m: BA in the first round, SH in each further one; a went out in the round before
+    -- what ballot k has in round m: BA in the first round, SH in each further one where it is counted; a went out in the round before
     unfoldable pub recordFault : (a m k : ℕ) → ℕ
-    recordFault a zero k = ballotFault hash s h (place s h 0 k) (k + 1)
-    recordFault a (suc m) k = shiftFault hash s h (h .n - suc m) (place s h (suc m) k) (suc m + 1) a (place s h m k) (k + 1)
+    recordFault a zero k = firstFault (ballotTests hash s h (place s h 0 k) (k + 1) ++ ((someCounted s h k orElse 19) ∷ []))
+    recordFault a (suc m) k =
+        cond (isCounted (kind s h k))
+        (shiftFault hash s h (h .n - suc m) (place s h (suc m) k) (suc m + 1) a (pairsPlace s h m k) (k + 1))
+        0
 
-    -- one round: its K records, its sheet, and what comes after
+    -- one round: its ballots' records, its sheet, and what comes after
     unfoldable pub roundVerdict : Standing → (m a : ℕ) → (after : Verdict) → Verdict
     roundVerdict st m a after =
         elim (faultBelow (h .K) (recordFault a m)) [
           | some w ↦ refused (w .1) (recordNumber s h m (w .0))
           | none ↦
-              cond (eqb (roundSheetFault s h m (due h st (counts s h m))) 0)
-              (cond (closes (h .n) st (counts s h m) (h .K)) (ending s h st m) after)
-              (refused (roundSheetFault s h m (due h st (counts s h m))) (recordNumber s h m (h .K)))
+              cond (eqb (roundSheetFault s h m (due (h .n) (counted s h) st (counts s h m))) 0)
+              (cond (closes (h .n) st (counts s h m) (counted s h)) (ending s h st m) after)
+              (refused (roundSheetFault s h m (due (h .n) (counted s h) st (counts s h m))) (recordNumber s h m (h .K)))
         ]
 
     -- from round m on; a went out in the round before. Fuel bounds the rounds, and its end is no board's answer (`whole`, Refusals).

@@ -14,9 +14,9 @@ pub record Matrix : Type 0 where
   pub b : ℕ → ℕ → ℕ
   pub y : ℕ → ℕ → ℕ
 
--- "pairs (b 4, Y 4) by rows": those of the record that starts at a place
+-- "pairs (b 4, Y 4) by rows": those from a place on
 unfoldable pub matrixAt : (s : List ℕ) (n at : ℕ) → Matrix
-matrixAt s n at = record { b = λ i j. number4 s (at + 4 + 8 * (i * n + j)); y = λ i j. number4 s (at + 4 + 8 * (i * n + j) + 4) }
+matrixAt s n at = record { b = λ i j. number4 s (at + 8 * (i * n + j)); y = λ i j. number4 s (at + 8 * (i * n + j) + 4) }
 
 -- "Entry: two branches, (b, Y) and (b/g1, Y).": of a pair
 unfoldable pub entryClaim : Parameters → (b y l : ℕ) → Statement

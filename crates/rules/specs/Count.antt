@@ -15,6 +15,11 @@ unfoldable pub table {ℓ} : {A : Type ℓ} → ℕ → (ℕ → A) → List A
 table zero f = []
 table (suc k) f = table k f ++ (f k ∷ [])
 
+-- those of f 0, .., f (k - 1) that a test picks
+unfoldable pub tableWhere {ℓ} : {A : Type ℓ} → ℕ → (ℕ → Bool) → (ℕ → A) → List A
+tableWhere zero p f = []
+tableWhere (suc k) p f = tableWhere k p f ++ cond (p k) (f k ∷ []) []
+
 -- "A ranking lists the n numbers, best first."
 unfoldable pub isRanking : (n : ℕ) → List ℕ → Bool
 unfolding member
@@ -74,15 +79,15 @@ module _ (st : Standing) (counts : List ℕ) where
   highest i = pick (st .gone) (λ best c. behind best c) i
 
 module _ (n : ℕ) (st : Standing) (counts : List ℕ) where
-  -- "a process still in has 2 × count > K"
-  unfoldable pub majority : (K : ℕ) → Bool
+  -- "a process still in has 2 × count > K"; 02, L5: of C counted ballots, since "majority .. over counted ballots"
+  unfoldable pub majority : (C : ℕ) → Bool
   unfolding anyBelow member
-  majority K = anyBelow n (λ i. not (member (suc i) (st .gone)) && ltb K (2 * countOf counts (suc i)))
+  majority C = anyBelow n (λ i. not (member (suc i) (st .gone)) && ltb C (2 * countOf counts (suc i)))
 
   -- "A round closes the board if a process still in has 2 × count > K, or if m = n−1."
-  unfoldable pub closes : (K : ℕ) → Bool
+  unfoldable pub closes : (C : ℕ) → Bool
   unfolding majority
-  closes K = eqb (roundNumber st) (n - 1) || majority K
+  closes C = eqb (roundNumber st) (n - 1) || majority C
 
   abbrev pub leaves : ℕ
   leaves = lowest st counts n

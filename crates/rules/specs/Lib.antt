@@ -1,5 +1,5 @@
--- What 01 says of a board, its checker and the count, and what 02 asks of the ballots' receipts, of equal counts and of the message of a
--- challenge: the definitions alone. Text in quotation marks is 01's but where a file says otherwise.
+-- What 01 says of a board, its checker and the count, and what 02 asks of the ballots' receipts, of equal counts, of the message of a
+-- challenge and of audited ballots: the definitions alone. Text in quotation marks is 01's but where a file says otherwise.
 -- Rounds, ballots, rows, columns and branches are counted from 0; processes from 1.
 pub mod Bytes
 pub mod Group
@@ -9,6 +9,7 @@ pub mod Claims
 pub mod Count
 pub mod Tests
 pub mod Header
+pub mod Audit
 pub mod Ballot
 pub mod Shift
 pub mod Sheet

@@ -9,9 +9,11 @@ use Rattle.group.specs.Arithmetic.{powMod}
 use Rattle.group.specs.Elements.{Parameters}
 use Rattle.rules.specs.Group.{paired}
 use Rattle.rules.specs.Claims.{Matrix}
+use Rattle.rules.specs.Records.{isCounted}
 use Rattle.rules.specs.Count.{isRanking}
 use Rattle.rules.specs.Header.{header}
-use Rattle.rules.specs.Check.{matrix, outField}
+use Rattle.rules.specs.Audit.{valueOf}
+use Rattle.rules.specs.Check.{kind, matrix, outField}
 
 -- "A pair (b, Y) opens to x and v, both 0 to q−1, if b = g0^x × g1^v and Y = g1^x."
 pub record Opening (g : Parameters) (b y x v : ℕ) : Type 0 where
@@ -24,12 +26,16 @@ pub record Opening (g : Parameters) (b y x v : ℕ) : Type 0 where
 -- and to v = 1 in the column of the process at its row's place, else to v = 0."
 pub record OpensTo (g : Parameters) (rows n : ℕ) (M : Matrix) (list : List ℕ) : Type 0 where
   pub a-row-each : length list ≡ rows
-  pub pairs : (i j : ℕ) → i < rows → j < n → (x : ℕ) × Opening g (M .b i j) (M .y i j) x (cond (eqb (getD list i 0) (j + 1)) 1 0)
+  pub pairs : (i j : ℕ) → i < rows → j < n → (x : ℕ) × Opening g (M .b i j) (M .y i j) x (valueOf list i j)
 
 -- a list of different processes without one of them
 unfoldable pub without : ℕ → List ℕ → List ℕ
 without c [] = []
 without c (x ∷ xs) = cond (eqb c x) (without c xs) (x ∷ without c xs)
+
+-- ballot k of a board is counted (02, L5)
+abbrev pub Counted : (s : List ℕ) (k : ℕ) → Type 0
+Counted s k = isCounted (kind s (header s) k) ≡ true
 
 module _ (s : List ℕ) (rankings : ℕ → List ℕ) where
   -- ballot k's list in round m: its ranking, then "that of the same ballot's matrix a round earlier without the process that the sheet between them names as out"
@@ -37,8 +43,8 @@ module _ (s : List ℕ) (rankings : ℕ → List ℕ) where
   listAt zero k = rankings k
   listAt (suc m) k = without (outField s (header s) m) (listAt m k)
 
-  -- "A first matrix, in BA, opens to a full ranking"; "A later one, in SH, opens to the one before with a row struck"
+  -- "A first matrix, in BA, opens to a full ranking"; "A later one, in SH, opens to the one before with a row struck": those of the counted ballots
   pub record Opens (rounds : ℕ) : Type 0 where
-    pub full : (k : ℕ) → k < header s .K → isRanking (header s .n) (rankings k) ≡ true
-    pub opens : (m k : ℕ) → m < rounds → k < header s .K →
+    pub full : (k : ℕ) → k < header s .K → Counted s k → isRanking (header s .n) (rankings k) ≡ true
+    pub opens : (m k : ℕ) → m < rounds → k < header s .K → Counted s k →
         OpensTo (header s .group) (header s .n - m) (header s .n) (matrix s (header s) m k) (listAt m k)

@@ -13,7 +13,7 @@ use Rattle.rules.specs.Count.{table}
 use Rattle.rules.specs.Tests.{firstFault, faultBelow, _orElse_}
 use Rattle.rules.specs.Header.{ranked, header, headerFault}
 use Rattle.rules.specs.Ballot.{ballotFrame}
-use Rattle.rules.specs.Check.{place, recordNumber}
+use Rattle.rules.specs.Check.{place, kind, recordNumber}
 
 -- ---- digests of 32 bytes, one after another
 abbrev pub digestCount : (digests : List ℕ) → ℕ
@@ -47,11 +47,11 @@ listFault digests room = firstFault ((digestsGood digests orElse 16) ∷ (leb (d
 
 -- ---- the ballots of a board
 module _ (s : List ℕ) where
-  -- ballot k's BA record, all its bytes
+  -- ballot k's BA record, all its bytes, what an audited one shows among them
   abbrev pub ballotRecord : (k : ℕ) → List ℕ
-  ballotRecord k = part s (place s (header s) 0 k) (ballotLength (header s .n))
+  ballotRecord k = part s (place s (header s) 0 k) (ballotLength (header s .n) (kind s (header s) k))
 
-  -- "Refusals 1 to 6 hold up to the last BA": 1, 2 and 6 of ballot k's record
+  -- "Refusals 1 to 6 hold up to the last BA": 1, 2 and 6 of ballot k's record; L5: 17 "(after 6, in L1's walk too ..)"
   abbrev pub frameFault : (k : ℕ) → ℕ
   frameFault k = firstFault (ballotFrame s (header s) (place s (header s) 0 k) (k + 1))
 

@@ -14,7 +14,7 @@ use Rattle.rules.specs.Count.{table}
 use Rattle.rules.specs.Tests.{Test, firstFault, _orElse_, frame}
 use Rattle.rules.specs.Header.{Header}
 
--- "over all K ballots' first rows: product of b", "product of Y": those of the ballots so far, by column
+-- "over all K ballots' first rows: product of b", "product of Y"; 02, L5: an audited ballot "enters no product". Those of the ballots so far, by column
 pub record Tally : Type 0 where
   pub b : ℕ → ℕ
   pub y : ℕ → ℕ
@@ -46,10 +46,10 @@ module _ (s : List ℕ) (h : Header) (at : ℕ) where
   abbrev pub sheetFrame : (round : ℕ) → List Test
   sheetFrame round = frame s at (sheetLength (h .n)) RT (getD s (at + 2) 0) round
 
-  -- 7 of each s, and 9, "in that same walk: count > K"
-  unfoldable pub sheetFields : (i : ℕ) → List Test
-  sheetFields zero = []
-  sheetFields (suc i) = sheetFields i ++ ((leb (countAt s at i) (h .K) orElse 9) ∷ (ltb (exponentAt s at i) (h .group .q) orElse 7) ∷ [])
+  -- 7 of each s, and 9, "in that same walk: count > K"; 02, L5: "the count limit of 9" is "over counted ballots", of which there are C
+  unfoldable pub sheetFields : (C i : ℕ) → List Test
+  sheetFields C zero = []
+  sheetFields C (suc i) = sheetFields C i ++ ((leb (countAt s at i) C orElse 9) ∷ (ltb (exponentAt s at i) (h .group .q) orElse 7) ∷ [])
 
   -- 10: "product of b = g0^s × g1^count, product of Y = g1^s"
   unfoldable pub tallies : Tally → Bool
@@ -58,7 +58,7 @@ module _ (s : List ℕ) (h : Header) (at : ℕ) where
       eqb (T .b i % h .group .p) (paired (h .group) (exponentAt s at i) (countAt s at i))
       && eqb (T .y i % h .group .p) (powMod (h .group .p) (h .group .g1) (exponentAt s at i)))
 
-  -- the sheet due: its round, from 1, and what its out field is to hold
-  unfoldable pub sheetFault : (round : ℕ) → Tally → (due : ℕ) → ℕ
-  sheetFault round T due =
-      firstFault (sheetFrame round ++ (sheetFields (h .n) ++ ((tallies T orElse 10) ∷ (eqb (outAt s at) due orElse 11) ∷ [])))
+  -- the sheet due: its round, from 1, and what its out field is to hold; C ballots are counted
+  unfoldable pub sheetFault : (round C : ℕ) → Tally → (due : ℕ) → ℕ
+  sheetFault round C T due =
+      firstFault (sheetFrame round ++ (sheetFields C (h .n) ++ ((tallies T orElse 10) ∷ (eqb (outAt s at) due orElse 11) ∷ [])))

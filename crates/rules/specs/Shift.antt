@@ -30,15 +30,15 @@ module _ (s : List ℕ) (h : Header) (R at : ℕ) where
   -- 7: "R+1 branches", of two statements and one for each new pair
   unfoldable pub shiftFields : Bool
   shiftFields =
-      pairsGood h R (matrixAt s (h .n) at)
+      pairsGood h R (matrixAt s (h .n) (at + 4))
       && proofFields s (shiftProof (h .n) R at) (R + 1) (2 + R * h .n) (h .group .p) (h .group .q)
 
 module _ (hash : List ℕ → List ℕ) (s : List ℕ) (h : Header) (R at : ℕ) where
-  -- 8: the record is of a round, from 1; the ballot's record a round earlier starts at before, and process a went out in that round
+  -- 8: the record is of a round, from 1; the pairs of the ballot's record a round earlier start at before, and process a went out in that round
   unfoldable pub shiftHolds : (round a before : ℕ) → Bool
   shiftHolds round a before =
       holdsAt hash s h (shiftContext round (number2 s (at + 2))) (shiftProof (h .n) R at) (R + 1) (2 + R * h .n)
-      (λ l i. shiftClaim (h .group) (h .n) (matrixAt s (h .n) before) (matrixAt s (h .n) at) (a - 1) l i)
+      (λ l i. shiftClaim (h .group) (h .n) (matrixAt s (h .n) before) (matrixAt s (h .n) (at + 4)) (a - 1) l i)
 
   -- the record due: the number of its ballot, from 1
   unfoldable pub shiftFault : (round a before number : ℕ) → ℕ

@@ -20,7 +20,7 @@ pub enum Refusal {
     Field,
     // 8: a proof fails.
     Proof,
-    // 9: a count is above K.
+    // 9: a count is above the number of counted ballots.
     Count,
     // 10: a tally equation fails.
     Tally,
@@ -36,6 +36,12 @@ pub enum Refusal {
     Output,
     // 16: the digests are more than 500, out of order, or no multiple of 32 bytes.
     Digests,
+    // 17: a ballot is neither counted nor audited, or the kinds are not one a ballot.
+    Kind,
+    // 18: an audited ballot does not open to what it shows.
+    Opening,
+    // 19: no ballot is counted.
+    NoneCounted,
 }
 
 // The number of a refusal in the table.
@@ -59,6 +65,9 @@ pub fn refusal_number(r: Refusal) -> usize
         Refusal::Draws => 14,
         Refusal::Output => 15,
         Refusal::Digests => 16,
+        Refusal::Kind => 17,
+        Refusal::Opening => 18,
+        Refusal::NoneCounted => 19,
     }
 }
 

@@ -42,11 +42,11 @@ pub tallied-fewer : {p m n : ℕ} {t : Tally} {T : said.Tally} → n ≤ m → T
 tallied-fewer l h =
     record { b-long = h .b-long; y-long = h .y-long; b-is = λ i b. h .b-is i (omega arith); y-is = λ i b. h .y-is i (omega arith) }
 
-pub with-row : (s : List ℕ) (p n at : ℕ) (t : Tally) (b y : List Element) → Rowed p (λ j. number4 s (at + 4 + 8 * j)) (t .b) b n →
-    Rowed p (λ j. number4 s (at + 4 + 8 * j + 4)) (t .y) y n → (T : said.Tally) → Tallied p n t T →
-    Tallied p n (record { b = b; y = y }) (said.withRow T (matrixAt s n at))
+pub with-row : (s : List ℕ) (p n at : ℕ) (t : Tally) (b y : List Element) (ballots : ℕ) → Rowed p (λ j. number4 s (at + 8 * j)) (t .b) b n →
+    Rowed p (λ j. number4 s (at + 8 * j + 4)) (t .y) y n → (T : said.Tally) → Tallied p n t T →
+    Tallied p n (record { b = b; y = y; ballots = ballots }) (said.withRow T (matrixAt s n at))
 unfolding matrixAt
-with-row s p n at t b y rb ry T h =
+with-row s p n at t b y ballots rb ry T h =
     record {
       b-long = rb .long;
       y-long = ry .long;

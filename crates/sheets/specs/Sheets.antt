@@ -5,10 +5,7 @@ use mathlib.Core.Bool.{Bool, true, false, cond, _&&_}
 use mathlib.Core.List.{List, [], _∷_, _++_}
 use lib.Dec.{eqb, leb, ltb}
 use lib.ListN.{getD, take}
-use Rattle.group.specs.Arithmetic.{powMod}
-use Rattle.group.specs.Elements.{Parameters}
 use Rattle.group.specs.declared.Exponent.{Exponent}
-use Rattle.rules.specs.Group.{paired}
 use Rattle.rules.specs.Bytes.{number2, number4}
 use Rattle.rules.specs.Count.{table, next, ended, leaves, wins, closes}
 use Rattle.rules.specs.Tests.{Test, firstFault, _orElse_}
@@ -28,21 +25,17 @@ use Rattle.header.specs.Heads.{headOf}
 abbrev pub countGood : (s : List ℕ) (k q at i : ℕ) → Bool
 countGood s k q at i = leb (number2 s (at + 4 + 6 * i)) k && ltb (number4 s (at + 6 + 6 * i)) q
 
--- a column's products modulo p, with the count and the exponent that its sheet has for it
-abbrev pub columnTallies : Parameters → (b y count x : ℕ) → Bool
-columnTallies g b y count x = eqb b (paired g x count) && eqb y (powMod (g .p) (g .g1) x)
-
 -- the exponent of process i + 1 among those of a sheet
 abbrev pub exponentOf : List Exponent → ℕ → ℕ
 exponentOf xs i = getD xs i (record { 0 = 0 }) .0
 
--- the walk of the fields of a sheet at a place: the first refusal, or none, and the counts and exponents that were read
-unfoldable pub Counted : (s : List ℕ) → Head → (at : ℕ) (read : List ℕ) (xs : List Exponent) → Fault → Type 0
-Counted s h at read xs Sound =
-    ((rest : List Test) → firstFault (sheetFields s (headOf s h) at (h .n) ++ rest) ≡ firstFault rest)
+-- the walk of the fields of a sheet at a place, C ballots being counted: the first refusal, or none, and the counts and exponents that were read
+unfoldable pub Counted : (s : List ℕ) → Head → (C at : ℕ) (read : List ℕ) (xs : List Exponent) → Fault → Type 0
+Counted s h C at read xs Sound =
+    ((rest : List Test) → firstFault (sheetFields s (headOf s h) at C (h .n) ++ rest) ≡ firstFault rest)
     × (take (h .n) read ≡ table (h .n) (λ i. number2 s (at + 4 + 6 * i)))
     × ((i : ℕ) → i < h .n → exponentOf xs i ≡ number4 s (at + 6 + 6 * i))
-Counted s h at read xs (Refused w) = (rest : List Test) → firstFault (sheetFields s (headOf s h) at (h .n) ++ rest) ≡ refusalNumber w
+Counted s h C at read xs (Refused w) = (rest : List Test) → firstFault (sheetFields s (headOf s h) at C (h .n) ++ rest) ≡ refusalNumber w
 
 -- the last test of a sheet, of what its out field holds
 abbrev pub outFault : (n k : ℕ) → Count → (cs : List ℕ) (out : ℕ) → ℕ
@@ -58,8 +51,8 @@ Stepped n k c cs f (O.Open a) after =
     (f ≡ 0) × (closes n (standingOf n c) cs k ≡ false) × (a ≡ leaves n (standingOf n c) cs) × (a ≤ n)
     × (after .gone .outs ≡ c .gone .outs + 1) × Kept after × (standingOf n after ≡ next n (standingOf n c) cs)
 
--- what the sheet at a place comes to, in the round after those of the standing count, whose ballots have these products
-abbrev pub SheetReads : (s : List ℕ) → Head → (before : Count) → Tally → (at : ℕ) → Outcome → (after : Count) → Type 0
-SheetReads s h c T at =
-    Stepped (h .n) (h .k) c (countsAt s at (h .n))
-    (sheetFault s (headOf s h) at (c .gone .outs + 1) T (due (headOf s h) (standingOf (h .n) c) (countsAt s at (h .n))))
+-- what the sheet at a place comes to, in the round after those of the standing count, whose C counted ballots have these products
+abbrev pub SheetReads : (s : List ℕ) → Head → (before : Count) (C : ℕ) → Tally → (at : ℕ) → Outcome → (after : Count) → Type 0
+SheetReads s h c C T at =
+    Stepped (h .n) C c (countsAt s at (h .n))
+    (sheetFault s (headOf s h) at (c .gone .outs + 1) C T (due (h .n) C (standingOf (h .n) c) (countsAt s at (h .n))))

@@ -17,11 +17,12 @@ ghost use Rattle.numbers.specs.Below.{allBelow};
 ghost use Rattle.group.specs.Elements.{parametersOf};
 ghost use Rattle.rules.specs.Records.{sheetLength};
 ghost use Rattle.rules.specs.Header.{ranked};
+ghost use Rattle.rules.specs.Audit.{pairOpens};
 ghost use Rattle.rules.specs.Sheet as said;
 ghost use Rattle.count.specs.State.{countsOn, Kept};
 ghost use Rattle.header.specs.Heads.{HeaderKnown};
 ghost use Rattle.sheets.specs.Tallies.{elementOf, Tallied};
-ghost use Rattle.sheets.specs.Sheets.{Counted, exponentOf, outFault, Stepped, SheetReads, columnTallies};
+ghost use Rattle.sheets.specs.Sheets.{Counted, exponentOf, outFault, Stepped, SheetReads};
 
 pub mod tally;
 
@@ -47,13 +48,13 @@ struct SheetFields {
     s: [Exponent; 8],
 }
 
-// The counts and exponents of the sheet at a place, left to right.
-fn sheet_fields(board: &[u8], h: Head, at: usize) -> SheetFields
-    requires { ⌜ HeaderKnown ranked (now board) h × (at + sheetLength (h .n) ≤ length (now board)) ⌝ }
-    ensures { λ r. ⌜ Counted (now (board .entry)) h at (r .sheet .counts) (r .s) (r .fault) ⌝ }
+// The counts and exponents of the sheet at a place, left to right; so many ballots are counted.
+fn sheet_fields(board: &[u8], h: Head, ballots: usize, at: usize) -> SheetFields
+    requires { ⌜ HeaderKnown ranked (now board) h × (at + sheetLength (h .n) ≤ length (now board)) × (ballots ≤ 1000) ⌝ }
+    ensures { λ r. ⌜ Counted (now (board .entry)) h ballots at (r .sheet .counts) (r .s) (r .fault) ⌝ }
 {
     let n = h.n;
-    let most = h.k as u32;
+    let most = ballots as u32;
     let q = h.setup.group.q;
     let mut counts = [0u32; 8];
     let mut s = [Exponent(0); 8];
@@ -84,23 +85,10 @@ fn sheet_fields(board: &[u8], h: Head, at: usize) -> SheetFields
     }
 }
 
-// The tally equations of a column: its products, its count and its exponent s.
-fn column_tallies(g: Group, b: Element, y: Element, count: Exponent, s: Exponent) -> bool
-    requires { ⌜ 0 < g .p ⌝ }
-    ensures { λ r. ⌜ r ≡ columnTallies (parametersOf g) (b .0) (y .0) (count .0) (s .0) ⌝ }
-{
-    let p = g.p;
-    let due = group::mul(p, group::pow(p, g.g0, s), group::pow(p, g.g1, count));
-    if b.0 == due.0 {
-        y.0 == group::pow(p, g.g1, s).0
-    } else {
-        false
-    }
-}
-
+// The tally equations: the products of each column, its count and its exponent s.
 fn tallies(g: Group, n: usize, tally: Tally, sheet: Sheet, s: [Exponent; 8]) -> bool
     requires { ⌜ (0 < g .p) × (n ≤ 8) × (length (tally .b) ≡ 8) × (length (tally .y) ≡ 8) ⌝ }
-    ensures { λ r. ⌜ r ≡ allBelow n (λ i. columnTallies (parametersOf g) (elementOf (tally .b) i) (elementOf (tally .y) i) (getD (sheet .counts) i 0) (exponentOf s i)) ⌝ }
+    ensures { λ r. ⌜ r ≡ allBelow n (λ i. pairOpens (parametersOf g) (elementOf (tally .b) i) (elementOf (tally .y) i) (exponentOf s i) (getD (sheet .counts) i 0)) ⌝ }
 {
     let group = g;
     let b = tally.b;
@@ -109,7 +97,7 @@ fn tallies(g: Group, n: usize, tally: Tally, sheet: Sheet, s: [Exponent; 8]) -> 
     let exponents = s;
     for i in 0..n {
         let count = Exponent(counts[i]);
-        if !column_tallies(group, b[i], y[i], count, exponents[i]) {
+        if !openings::pair_opens(group, b[i], y[i], exponents[i], count) {
             return false;
         }
     }
@@ -126,7 +114,8 @@ fn refused(why: Refusal, count: Count, next: usize) -> Step
     }
 }
 
-// What a sheet that passed the tests before comes to, by its out field: 0 where it closes the board, and else the process that leaves.
+// What a sheet of k counted ballots that passed the tests before comes to, by its out field: 0 where it closes the board, and else the process
+// that leaves.
 fn counted(count: Count, sheet: Sheet, n: usize, k: usize, out: usize, next: usize) -> Step
     requires { ⌜ Kept count × (count .gone .outs < 8) × (2 ≤ n) × (n ≤ 8) × (k ≤ 1000) ⌝ }
     ensures { λ r. ⌜ Stepped n k count (countsOn n sheet) (outFault n k count (countsOn n sheet) out) (r .outcome) (r .count) × (r .next ≡ next) ⌝ }
@@ -154,11 +143,11 @@ fn counted(count: Count, sheet: Sheet, n: usize, k: usize, out: usize, next: usi
     }
 }
 
-// The sheet of the round after those of the standing count, at its place; the products are those of the round's ballots.
+// The sheet of the round after those of the standing count, at its place; the products are those of the round's counted ballots.
 pub fn read_sheet(board: &[u8], h: Head, count: Count, tally: Tally, at: usize) -> Step
     requires { ⌜ HeaderKnown ranked (now board) h × Kept count × (count .gone .outs < h .n) × (at ≤ length (now board)) ⌝ }
-    requires { ⌜ (length (tally .b) ≡ 8) × (length (tally .y) ≡ 8) ⌝ }
-    ensures { λ r. ⌜ ((T : said.Tally) → Tallied (h .setup .group .p) (h .n) tally T → SheetReads (now (board .entry)) h count T at (r .outcome) (r .count)) × (r .next ≡ at + sheetLength (h .n)) ⌝ }
+    requires { ⌜ (length (tally .b) ≡ 8) × (length (tally .y) ≡ 8) × (tally .ballots ≤ 1000) ⌝ }
+    ensures { λ r. ⌜ ((T : said.Tally) → Tallied (h .setup .group .p) (h .n) tally T → SheetReads (now (board .entry)) h count (tally .ballots) T at (r .outcome) (r .count)) × (r .next ≡ at + sheetLength (h .n)) ⌝ }
 {
     let n = h.n;
     let round = count.gone.outs + 1;
@@ -167,7 +156,8 @@ pub fn read_sheet(board: &[u8], h: Head, count: Count, tally: Tally, at: usize) 
     if let Fault::Refused(why) = framed {
         return refused(why, count, next);
     }
-    let read = sheet_fields(board, h, at);
+    let ballots = tally.ballots;
+    let read = sheet_fields(board, h, ballots, at);
     let walked = read.fault;
     if let Fault::Refused(why) = walked {
         return refused(why, count, next);
@@ -177,5 +167,5 @@ pub fn read_sheet(board: &[u8], h: Head, count: Count, tally: Tally, at: usize) 
     if !tallies(h.setup.group, n, tally, sheet, s) {
         return refused(Refusal::Tally, count, next);
     }
-    counted(count, sheet, n, h.k, frames::byte(board, at + 3), next)
+    counted(count, sheet, n, ballots, frames::byte(board, at + 3), next)
 }

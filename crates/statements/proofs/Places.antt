@@ -14,12 +14,12 @@ use Rattle.statements.specs.declared.claims.Claim.{Claim}
 use Rattle.statements.specs.declared.claims.Claim.the-variants.{Entry, Line}
 use Rattle.statements.proofs.Lines.{by-row, by-column, row-or-column, row-cell, column-cell, row-below, line-within}
 
--- of the matrix of n rows and n columns of the record at a place
+-- of the matrix of n rows and n columns at a place
 abbrev pub entryAt : (n at i j : ℕ) → Claim
-entryAt n at i j = Entry (at + 4 + 8 * (i * n + j))
+entryAt n at i j = Entry (at + 8 * (i * n + j))
 
 abbrev pub lineAt : (n at t : ℕ) → Claim
-lineAt n at t = Line (at + 4 + 8 * lineStart n t) (8 * lineStride n t) n
+lineAt n at t = Line (at + 8 * lineStart n t) (8 * lineStride n t) n
 
 module _ (s : List ℕ) (g : Parameters) (n at : ℕ) where
   pub entry-claimed : (i j : ℕ) → claimOf s g (entryAt n at i j) ≡ (λ l _. entryClaim g (matrixAt s n at .b i j) (matrixAt s n at .y i j) l)
@@ -38,13 +38,13 @@ module _ (s : List ℕ) (g : Parameters) (n at : ℕ) where
   line-claimed t =
       let said : Statement → ℕ → ℕ → Statement = λ st _ _. st in
       row-or-column n t
-      (λ h. ap said (cells _ _ (λ j. at + 4 + 8 * (t * n + j)) (λ j. omega (arith, row-cell n t j h))
+      (λ h. ap said (cells _ _ (λ j. at + 8 * (t * n + j)) (λ j. omega (arith, row-cell n t j h))
       ∙ sym (by-row n (rowClaim g n (matrixAt s n at)) (columnClaim g n (matrixAt s n at)) t h)))
-      (λ h. ap said (cells _ _ (λ i. at + 4 + 8 * (i * n + (t - n))) (λ i. omega (arith, column-cell n t i h))
+      (λ h. ap said (cells _ _ (λ i. at + 8 * (i * n + (t - n))) (λ i. omega (arith, column-cell n t i h))
       ∙ sym (by-column n (rowClaim g n (matrixAt s n at)) (columnClaim g n (matrixAt s n at)) t h)))
 
   -- they stand on the board if the matrix does
-  module _ (inverses : List ℕ) (fits : at + 4 + 8 * (n * n) ≤ length s) (l k : ℕ) where
+  module _ (inverses : List ℕ) (fits : at + 8 * (n * n) ≤ length s) (l k : ℕ) where
     pub entry-stands : (i j : ℕ) → i < n → j < n → Within s inverses g (entryAt n at i j) l k
     unfolding Within
     entry-stands i j hi hj = omega (arith, row-below n n i hi)

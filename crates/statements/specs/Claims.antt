@@ -12,7 +12,7 @@ use Rattle.statements.specs.declared.Statement.{Statement}
 use Rattle.statements.specs.declared.claims.Claim.{Claim}
 use Rattle.statements.specs.declared.claims.Claim.the-variants.{Entry, Line, Shift}
 
--- what a claim says of branch l, statement k: the pairs are those at its places, the matrices those of the records there
+-- what a claim says of branch l, statement k: the pairs and the matrices are those at its places
 unfoldable pub claimOf : (s : List ℕ) → Parameters → Claim → (l k : ℕ) → said.Statement
 claimOf s g (Entry at) l k = entryClaim g (number4 s at) (number4 s (at + 4)) l
 claimOf s g (Line at stride count) l k = lineClaim g count (λ j. number4 s (at + stride * j)) (λ j. number4 s (at + 4 + stride * j))
@@ -20,7 +20,7 @@ claimOf s g (Shift before new rows n a) l k = shiftClaim g n (matrixAt s n befor
 
 -- the inverses of the words of a matrix, one after another
 abbrev pub Inverted : (s : List ℕ) (p q at words : ℕ) (inverses : List ℕ) → Type 0
-Inverted s p q at words inverses = (u : ℕ) → u < words → getD inverses u 0 ≡ powMod p (number4 s (at + 4 + 4 * u)) (q - 1)
+Inverted s p q at words inverses = (u : ℕ) → u < words → getD inverses u 0 ≡ powMod p (number4 s (at + 4 * u)) (q - 1)
 
 pub record InverseTable (s : List ℕ) (p q at words : ℕ) (inverses : List ℕ) : Type 0 where
   pub long : length inverses ≡ 128
@@ -31,8 +31,8 @@ pub record Shifts (s inverses : List ℕ) (g : Parameters) (before new rows n a 
   pub column : a < n
   pub branch : l ≤ rows
   pub statement : k < 2 + rows * n
-  pub earlier : before + 4 + 8 * ((rows + 1) * n) ≤ length s
-  pub later : new + 4 + 8 * (rows * n) ≤ length s
+  pub earlier : before + 8 * ((rows + 1) * n) ≤ length s
+  pub later : new + 8 * (rows * n) ≤ length s
   pub long-enough : 2 * ((rows + 1) * n) ≤ length inverses
   pub inverted : Inverted s (g .p) (g .q) before (2 * ((rows + 1) * n)) inverses
 

@@ -25,7 +25,7 @@ pub enum Claim {
         stride: usize,
         count: usize,
     },
-    // The new matrix, of so many rows of n, is the one before with the row struck that has its 1 in column a. The places are those of the records, four bytes before the matrices.
+    // The new matrix, of so many rows of n, is the one before with the row struck that has its 1 in column a. The places are those of the matrices.
     Shift {
         before: usize,
         new: usize,
@@ -99,7 +99,7 @@ pub fn source_of(n: usize, l: usize, t: usize) -> usize
     t + n
 }
 
-// A shift's matrices: where the record before and the new one start, the rows of the new one, the columns, and the one gone out.
+// A shift's matrices: where the one before and the new one start, the rows of the new one, the columns, and the one gone out.
 struct Struck {
     before: usize,
     new: usize,
@@ -118,17 +118,17 @@ fn claimed_shift(s: &[u8], inverses: &[u32], g: Setup, m: Struck, l: usize, k: u
     let before = m.before;
     let new = m.new;
     if k == 0 {
-        return claimed_entry(s, g, before + 4 + 8 * (l * n + m.a), 1);
+        return claimed_entry(s, g, before + 8 * (l * n + m.a), 1);
     }
     if k == 1 {
-        let place = before + 4 + 8 * (l * n);
+        let place = before + 8 * (l * n);
         let b = fields::product_besides(s, p, place, 8, n, m.a);
         let y = fields::product_besides(s, p, place + 4, 8, n, m.a);
         return Statement { left: b, right: y };
     }
     let t = k - 2;
     let from = source_of(n, l, t);
-    let place = new + 4 + 8 * t;
+    let place = new + 8 * t;
     let b = fields::as_element(s, place);
     let y = fields::as_element(s, place + 4);
     let b_inverse = Element(inverses[2 * from]);
@@ -169,13 +169,13 @@ pub fn claimed(s: &[u8], inverses: &[u32], g: Setup, claim: Claim, l: usize, k: 
 
 // The inverses of the words of a matrix, with zeros up to 128. They are numbers modulo p: a slice of tuple structs cannot be lent.
 pub fn inverse_table(s: &[u8], p: u32, q: u32, at: usize, words: usize) -> [u32; 128]
-    requires { ⌜ (0 < p) × (0 < q) × (words ≤ 128) × (at + 4 + 4 * words ≤ length (now s)) ⌝ }
+    requires { ⌜ (0 < p) × (0 < q) × (words ≤ 128) × (at + 4 * words ≤ length (now s)) ⌝ }
     ensures { λ r. ⌜ InverseTable (now (s .entry)) p q at words r ⌝ }
 {
     let mut table = [0u32; 128];
     let e = Exponent(q - 1);
     for u in 0..words {
-        let x = group::pow(p, fields::as_element(s, at + 4 + 4 * u), e);
+        let x = group::pow(p, fields::as_element(s, at + 4 * u), e);
         table[u] = x.0;
     }
     table

@@ -1,11 +1,11 @@
--- The tests of a job in turn, up to the rankings, and the refusal that each names.
+-- The tests of a job in turn, up to the kinds, and the refusal that each names.
 use Prim.Native.Nat.{ℕ, suc, _*_, _<_}
 use mathlib.Core.Path.{_≡_, sym, _∙_}
-use mathlib.Core.Bool.{Bool, true, false, not, _&&_}
+use mathlib.Core.Bool.{Bool, true, false, not, _&&_, and-eq-true-iff}
 use mathlib.Core.Logic.{inl, inr}
 use mathlib.Core.List.{List}
 use native.Mathlib.Omega.{arith}
-use borrow.Author.Tests.{eq-eqb, ne-eqb, not-true, not-false}
+use borrow.Author.Tests.{eq-eqb, ne-eqb, eqb-true, not-true, not-false}
 use lib.Dec.{eqb}
 use lib.ListN.{length}
 use Rattle.numbers.specs.Below.{allBelow}
@@ -17,8 +17,8 @@ use Rattle.rules.specs.Group.{orders, generators}
 use Rattle.rules.specs.Header.{ranked, sizes}
 use Rattle.rules.specs.Count.{isRanking}
 use Rattle.rules.specs.Tests.{firstFault}
-use Rattle.jobs.specs.Job.{Job, groupOf, rankingOf}
-use Rattle.jobs.specs.Write.{labelGood, rankingsGood, jobFault, firstBad, badRanking, writeOutcome, writeOutput}
+use Rattle.jobs.specs.Job.{Job, groupOf, rankingOf, countedBelow}
+use Rattle.jobs.specs.Write.{labelGood, rankingsGood, kindsGood, someCounted, jobFault, firstBad, badRanking, writeOutcome, writeOutput}
 use Rattle.parameters.proofs.Rules.{orders-positive}
 use Rattle.validity.specs.Tests.{Stops}
 
@@ -47,6 +47,16 @@ module _ (job : Job) where
 
   pub well-ranked : length (job .rankings) ≡ job .K * job .n → firstBad job (job .K) ≡ 0 → rankingsGood job ≡ true
   well-ranked l b = rw (eq-eqb (length (job .rankings)) (job .K * job .n) l) (all-ranked (job .K) b)
+
+  -- as many kinds as ballots
+  pub kinds-many : kindsGood job ≡ true → length (job .kinds) ≡ job .K
+  kinds-many h = eqb-true _ _ (and-eq-true-iff (eqb (length (job .kinds)) (job .K)) _ .0 h .0)
+
+  pub none-counted : (c : ℕ) → c ≡ countedBelow job (job .K) → c ≡ 0 → someCounted job ≡ false
+  none-counted c e z = rw (eq-eqb (countedBelow job (job .K)) 0 (sym e ∙ z))
+
+  pub some-counted : (c : ℕ) → c ≡ countedBelow job (job .K) → (c ≡ 0 → ⊥) → someCounted job ≡ true
+  some-counted c e z = rw (ne-eqb (countedBelow job (job .K)) 0 (λ n. z (e ∙ n)))
 
 -- the first test that fails names the refusal
 module _ (job : Job) (out : List ℕ) where
@@ -87,3 +97,12 @@ module _ (job : Job) (out : List ℕ) where
         pub stops-ranking : length (job .rankings) ≡ job .K * job .n → (k : ℕ) → k ≡ firstBad job (job .K) → 0 < k → Stops job out 13 k
         unfolding badRanking
         stops-ranking h k e p = let t = eq-eqb (length (job .rankings)) (job .K * job .n) h in stops-rankings (rw t (not-ranked job (job .K) (omega arith))) k (rw t (sym e))
+
+        module _ (d : rankingsGood job ≡ true) where
+          pub stops-kinds : kindsGood job ≡ false → Stops job out 17 0
+          unfolding jobFault firstFault
+          stops-kinds k = plainly 16 (λ e. omega arith) (rw (a, b, c, d, k))
+
+          pub stops-uncounted : kindsGood job ≡ true → someCounted job ≡ false → Stops job out 19 0
+          unfolding jobFault firstFault
+          stops-uncounted k s = plainly 18 (λ e. omega arith) (rw (a, b, c, d, k, s))

@@ -16,7 +16,7 @@ pub record Stops (job : Job) (out : List ℕ) (number ranking : ℕ) : Type 0 wh
   pub outcome : writeOutcome sha256 job (length out) ≡ jobRefused number ranking
   pub output : writeOutput sha256 job out ≡ out
 
--- what the tests up to the rankings tell: the job's group, or the refusal, whatever the output
+-- what the tests up to the kinds tell: the job's group, or the refusal, whatever the output
 unfoldable pub JobTested : Job → Tested → Type 0
 JobTested job (Sound g) = Passed sha256 job × (parametersOf g ≡ groupOf sha256 job)
 JobTested job (Refused refusal k) = (out : List ℕ) → Stops job out (refusalNumber refusal) k

@@ -1,10 +1,11 @@
 // The numbers of a job, its tests, and the group that it fixes.
 use group::Element;
 use group::Group;
+use plain::kinds;
 use plain::rankings;
 use rules::Refusal;
 ghost use mathlib.Core.Path.{_≡_};
-ghost use mathlib.Core.Bool.{_&&_};
+ghost use mathlib.Core.Bool.{_&&_, _||_};
 ghost use mathlib.Core.List.{List, []};
 ghost use Prim.Native.Nat.{ℕ, _<_};
 ghost use lib.Dec.{leb, ltb, eqb};
@@ -13,6 +14,7 @@ ghost use Rattle.numbers.specs.Below.{allBelow};
 ghost use Rattle.sha256.specs.Message.{sha256};
 ghost use Rattle.group.specs.Elements.{parametersOf};
 ghost use Rattle.rules.specs.Group.{generators};
+ghost use Rattle.rules.specs.Records.{isCounted, isAudited};
 ghost use Rattle.jobs.specs.Job.{groupOf};
 ghost use Rattle.validity.specs.Jobs.{jobOf};
 ghost use Rattle.validity.specs.Tests.{JobTested};
@@ -27,7 +29,7 @@ pub struct Job {
     pub counter: u8,
 }
 
-// What the tests up to the rankings come to: the group, or the refusal and the bad ranking.
+// What the tests up to the kinds come to: the group, or the refusal and the bad ranking.
 pub enum Tested {
     Sound(Group),
     Refused(Refusal, usize),
@@ -36,7 +38,7 @@ pub enum Tested {
 // The group of a job, g1 worked out.
 fn group_of(job: Job, label: &[u8]) -> Group
     requires { ⌜ (0 < job .p) × (0 < job .q) ⌝ }
-    ensures { λ r. ⌜ parametersOf r ≡ groupOf sha256 (jobOf job (now (label .entry)) [] []) ⌝ }
+    ensures { λ r. ⌜ parametersOf r ≡ groupOf sha256 (jobOf job (now (label .entry)) [] [] []) ⌝ }
 {
     let g0 = job.g0;
     let g1 = parameters::derived(label, job.p, job.q, g0, job.counter);
@@ -59,9 +61,33 @@ fn label_good(label: &[u8], counter: u8, g: Group) -> bool
     parameters::generators_good(label, counter, g)
 }
 
-// The tests up to the rankings, in their order.
-pub fn up_to_rankings(job: Job, label: &[u8], rankings: &[u8]) -> Tested
-    ensures { λ r. ⌜ ((draws : List ℕ) → JobTested (jobOf job (now (label .entry)) (now (rankings .entry)) draws) r) ⌝ }
+fn is_kind(kind: usize) -> bool
+    ensures { λ r. ⌜ r ≡ (isCounted kind || isAudited kind) ⌝ }
+{
+    if kind == layout::COUNTED {
+        return true;
+    }
+    kind == layout::AUDITED
+}
+
+// Whether the kinds are so many, each counted or audited.
+fn kinds_good(kinds: &[u8], k: usize) -> bool
+    ensures { λ r. ⌜ r ≡ (eqb (length (now (kinds .entry))) k && allBelow k (λ b. isCounted (getD (now (kinds .entry)) b 0) || isAudited (getD (now (kinds .entry)) b 0))) ⌝ }
+{
+    if kinds.len() != k {
+        return false;
+    }
+    for b in 0..k {
+        if !is_kind(numbers::wide(kinds[b])) {
+            return false;
+        }
+    }
+    true
+}
+
+// The tests up to the kinds, in their order.
+pub fn up_to_kinds(job: Job, label: &[u8], rankings: &[u8], kinds: &[u8]) -> Tested
+    ensures { λ r. ⌜ ((draws : List ℕ) → JobTested (jobOf job (now (label .entry)) (now (rankings .entry)) (now (kinds .entry)) draws) r) ⌝ }
 {
     let n = job.n;
     let k = job.k;
@@ -81,6 +107,12 @@ pub fn up_to_rankings(job: Job, label: &[u8], rankings: &[u8]) -> Tested
     let bad = rankings::first_bad(rankings, n, k);
     if 0 < bad {
         return Tested::Refused(Refusal::Rankings, bad);
+    }
+    if !kinds_good(kinds, k) {
+        return Tested::Refused(Refusal::Kind, 0);
+    }
+    if kinds::counted(kinds, k) == 0 {
+        return Tested::Refused(Refusal::NoneCounted, 0);
     }
     Tested::Sound(g)
 }

@@ -7,7 +7,7 @@ pub mod BallotRecord
 pub mod ShiftRecord
 pub mod SheetRecord
 pub mod Rounds
-use Prim.Native.Nat.{ℕ, _+_, _-_, _<_, zero-le}
+use Prim.Native.Nat.{ℕ, suc, _+_, _-_, _<_, zero-le}
 use native.Mathlib.Nat.{mod-lt, zero-add}
 use native.Mathlib.Omega.{arith}
 use mathlib.Core.Path.{subst, subst⁻¹, _≡_, sym, refl, _∙_}
@@ -19,14 +19,17 @@ use Rattle.rules.specs.Bytes.{number2, number4, bytes2, bytes4, Stands}
 use Rattle.group.specs.Elements.{Parameters, isElement}
 use Rattle.rules.specs.Group.{generators, derived}
 use Rattle.group.specs.Arithmetic.{powMod}
-use Rattle.rules.specs.Records.{HF, hasMark}
-use Rattle.rules.specs.Count.{start, isRanking, table, plainCount}
+use Rattle.rules.specs.Records.{HF, hasMark, isCounted, isAudited}
+use Rattle.rules.specs.Count.{start, isRanking, tableWhere, plainCount}
+use Rattle.rules.specs.Audit.{shownExponent, shownRanking}
 use Rattle.rules.specs.Header.{ranked, header}
-use Rattle.rules.specs.Check.{checkFrom, accepted, checkModel, checkBoard, matrix}
-use Rattle.jobs.specs.Job.{Job, groupOf, headerOf, rankingOf, roundAt, boardLength, plainResult}
-use Rattle.jobs.specs.Board.{roundsFrom, board}
+use Rattle.rules.specs.Check.{checkFrom, accepted, checkModel, checkBoard, place, kind, matrix}
+use Rattle.jobs.specs.Records.{secretAt}
+use Rattle.jobs.specs.Job.{countedRankings as jobRankings, Job, groupOf, headerOf, rankingOf, kindOf, roundAt, boardLength, plainResult}
+use Rattle.jobs.specs.Board.{jobDraws, jobBallot, recordBytes, roundsFrom, board}
 use Rattle.whole.specs.Rules.{HeaderRules}
-use Rattle.whole.specs.ThirdDemand.{IsWritten, IsPlain}
+use Rattle.whole.specs.Audited.{exponentOf, rankingShown}
+use Rattle.whole.specs.ThirdDemand.{countedRankings, IsWritten, IsPlain}
 use Rattle.whole.proofs.Rules.{header-rules}
 use Rattle.jobs.specs.Write.{Valid, writeOutcome}
 use Rattle.jobs.proofs.FineJob.{no-refusal, Fine, fine, good-group}
@@ -34,10 +37,12 @@ use Rattle.rules.specs.Openings.{Opens, OpensTo, listAt}
 use Rattle.whole.proofs.Sound.{sound}
 use Rattle.rules.proofs.Elements.{Good}
 use Rattle.jobs.proofs.Lists.{standing-all}
-use Rattle.whole.proofs.Complete.Rounds.{Reach, rounds}
+use Rattle.whole.proofs.Complete.Rounds.{Reach, kinds-read, rounds, record-stands}
 use Rattle.rules.proofs.Places.{stands-whole, stands-left, stands-right, half-stands, word-stands, part-stands}
-use Rattle.jobs.proofs.Counting.{first-reached}
-use Rattle.jobs.proofs.Positions.{round-is}
+use Rattle.jobs.proofs.Counting.{first-reached, in-rounds}
+use Rattle.whole.proofs.Complete.BallotRecord.{exponent-read, ranking-read}
+use Rattle.jobs.proofs.Positions.{round-is, round-same}
+use Rattle.rules.proofs.Lists.{where-same}
 
 module _ (hash : List ℕ → List ℕ) (job : Job) (f : Fine hash job) where
   abbrev g : Parameters
@@ -117,6 +122,21 @@ module _ (hash : List ℕ → List ℕ) (job : Job) (f : Fine hash job) where
         whole = long;
       }
 
+  -- with its first round ahead
+  pub starts : Reach hash job s (suc (job .n - 1)) start 0 [] 0
+  starts = let rounds : job .n ≡ suc (job .n - 1) = omega (arith, f .n-low) in subst (λ (n : ℕ). Reach hash job s n start 0 [] 0) rounds begun
+
+  pub kinds-same : (k : ℕ) → k < job .K → kind s (headerOf hash job) k ≡ kindOf job k
+  kinds-same = kinds-read hash job s f (job .n - 1) starts
+
+  -- where each ballot's record stands
+  pub ballot-stands : (k : ℕ) → k < job .K → Stands s (place s (headerOf hash job) 0 k) (jobBallot hash job g k)
+  unfolding recordBytes
+  ballot-stands k l = record-stands hash job s f header-same kinds-same (job .n - 1) start 0 [] 0 starts k l
+
+  in-first : 0 < plainResult job .rounds
+  in-first = in-rounds job (f .ranked) (starts .count)
+
 pub written : (hash : List ℕ → List ℕ) (job : Job) → Valid hash job → IsWritten hash job (board hash job) (plainResult job)
 unfolding checkModel boardLength writeOutcome
 written hash job v =
@@ -124,25 +144,46 @@ written hash job v =
     let s = board hash job in
     let r = plainResult job in
     let e = header-same hash job f in
-    let w = rounds hash job s f e (job .n) start 0 [] 0 (begun hash job f) in
+    let kinds : (k : ℕ) → k < job .K → kind s (header s) k ≡ kindOf job k = subst⁻¹ (λ h. (k : ℕ) → k < job .K → kind s h k ≡ kindOf job k) e (kinds-same hash job f) in
+    let w = rounds hash job s f e (kinds-same hash job f) (job .n) start 0 [] 0 (begun hash job f) in
     let a : checkBoard hash s ≡ accepted (r .rounds) (r .order) (r .winner) =
     rw (header-rules hash ranked s .1 (header-kept hash job f)) (subst⁻¹ (λ h. checkFrom hash s h (h .n) start 0 0 ≡ accepted (r .rounds) (r .order) (r .winner)) e (w .0)) in
     let o : Opens s (rankingOf job) (r .rounds) =
     record {
-      full = subst⁻¹ (λ h. (k : ℕ) → k < h .K → isRanking (h .n) (rankingOf job k) ≡ true) e (f .ranked);
+      full = subst⁻¹ (λ h. (k : ℕ) → k < h .K → isCounted (kind s h k) ≡ true → isRanking (h .n) (rankingOf job k) ≡ true) e (λ k l _. f .ranked k l);
       opens = subst⁻¹
-          (λ h. (m k : ℕ) → m < r .rounds → k < h .K → OpensTo (h .group) (h .n - m) (h .n) (matrix s h m k) (listAt s (rankingOf job) m k))
-          e (λ m k b c. w .1 m k zero-le b c);
+          (λ h. (m k : ℕ) → m < r .rounds → k < h .K → isCounted (kind s h k) ≡ true → OpensTo (h .group) (h .n - m) (h .n) (matrix s h m k) (listAt s (rankingOf job) m k))
+          e (λ m k b c d. w .1 m k zero-le b c (rw (kinds-same hash job f k c) at d));
     } in
+    let same : countedRankings s (rankingOf job) ≡ jobRankings job =
+    subst⁻¹ (λ h. tableWhere (h .K) (λ k. isCounted (kind s h k)) (rankingOf job) ≡ jobRankings job) e
+    (where-same (job .K) _ _ (rankingOf job) (λ k l. rw (kinds-same hash job f k l))) in
     let p : IsPlain s (r .rounds) (r .order) (r .winner) r =
-    subst (λ h. IsPlain s (r .rounds) (r .order) (r .winner) (plainCount (h .n) (table (h .K) (rankingOf job)))) e
-    (sound hash s (r .rounds) (r .order) (r .winner) (rankingOf job) a o) in
-    let l : length s ≡ boardLength job = subst (λ h. length s ≡ roundAt (h .n) (h .K) (r .rounds)) e (p .whole ∙ round-is s (header s) (r .rounds)) in
+    subst (λ h. IsPlain s (r .rounds) (r .order) (r .winner) (plainCount (h .n) (jobRankings job))) e
+    (rw same at (sound hash s (r .rounds) (r .order) (r .winner) (rankingOf job) a o)) in
+    let l : length s ≡ boardLength job =
+    subst (λ h. length s ≡ roundAt (h .n) (kind s h) (h .K) (r .rounds)) e (p .whole ∙ round-is s (header s) (r .rounds))
+    ∙ round-same (job .n) (job .K) (kind s (headerOf hash job)) (kindOf job) (kinds-same hash job f) (r .rounds) in
     record {
       heads = e;
+      kinds = kinds;
       accepts = a;
       opens = o;
       is-plain = p;
       measured = l;
       replies = λ room b. rw (no-refusal hash job room v (omega (arith, l)), l);
     }
+
+-- what an audited ballot of a written board shows
+pub written-shown : (hash : List ℕ → List ℕ) (job : Job) → Valid hash job → (k : ℕ) → k < job .K → isAudited (kindOf job k) ≡ true →
+    (rankingShown (board hash job) k ≡ rankingOf job k)
+    × ((i j : ℕ) → i < job .n → j < job .n → exponentOf (board hash job) k i j ≡ secretAt (job .n) (job .draws) (jobDraws job 0 k) i j)
+written-shown hash job v k l c =
+    let f = fine hash job v in
+    let s = board hash job in
+    let e = header-same hash job f in
+    let at = ballot-stands hash job f k l in (
+      subst⁻¹ (λ h. shownRanking s (h .n) (place s h 0 k) ≡ rankingOf job k) e (ranking-read hash job k f (in-first hash job f) l s _ at c),
+      subst⁻¹ (λ h. (i j : ℕ) → i < job .n → j < job .n → shownExponent s (h .n) (place s h 0 k) i j ≡ secretAt (job .n) (job .draws) (jobDraws job 0 k) i j) e
+          (exponent-read hash job k f (in-first hash job f) l s _ at c),
+    )

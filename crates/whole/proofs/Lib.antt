@@ -1,4 +1,4 @@
--- The proofs: the second demand, both halves of the third, the refusals, the receipts, the messages and the starred cases.
+-- The proofs: the second demand, both halves of the third, audited ballots, the refusals, the receipts, the messages and the starred cases.
 pub mod Rules
 pub mod Verdicts
 pub mod Sound
@@ -6,6 +6,7 @@ pub mod Complete
 pub mod FirstFails
 pub mod SecondDemand
 pub mod ThirdDemand
+pub mod Audited
 pub mod Refusals
 pub mod EqualCounts
 pub mod Receipts

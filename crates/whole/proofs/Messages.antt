@@ -12,7 +12,7 @@ use Rattle.rules.specs.Proofs.{Context}
 use Rattle.rules.specs.Records.{headerLength, hasMark}
 use Rattle.rules.specs.Tests.{firstFault}
 use Rattle.rules.specs.Header.{header, headerFault}
-use Rattle.rules.specs.Check.{refused, checkModel, checkBoard}
+use Rattle.rules.specs.Check.{refused, kind, checkModel, checkBoard}
 use Rattle.rules.proofs.Messages.{body, body-long, parts-told, context-told, claim-told, commitments-told}
 use Rattle.whole.specs.Messages.{Hashed, branches, statements, context, hashedMessage, Fits, SameProof, onBoard, Messages}
 use Rattle.whole.proofs.Messages.Forms.{mark-long, number-told, size-told, form-told}
@@ -71,5 +71,5 @@ messages hash =
           let numbers : x .number ≡ y .number =
           sym (number-told (x .n) (x .number) f) ∙ ap (λ (c : Context). c .number) same ∙ number-told (y .n) (y .number) f' in
           let n : k + 1 ≡ k' + 1 = sym (number-is hash s rounds order winner w k l f o) ∙ numbers ∙ number-is hash s rounds order winner w k' l' f' o' in
-          (omega arith, form-told (header s .n) rounds (x .number) (y .number) f f' o o' same);
+          (omega arith, form-told (header s .n) rounds (kind s (header s) k) (kind s (header s) k') (x .number) (y .number) f f' o o' same);
     }

@@ -1,5 +1,5 @@
 -- What is claimed of finding receipts holds, for every hash.
-use Prim.Native.Nat.{ℕ, suc, _-_, _≤_, _<_}
+use Prim.Native.Nat.{ℕ, suc, _+_, _-_, _≤_, _<_}
 use mathlib.Core.Path.{_≡_, refl, sym, ap, subst, subst⁻¹, _∙_}
 use mathlib.Core.Bool.{Bool, true, false, true≢false}
 use mathlib.Core.List.{List, [], _∷_}
@@ -17,29 +17,27 @@ use Rattle.numbers.proofs.Tests.{by-cases}
 use Rattle.sha256.specs.Message.{sha256}
 use Rattle.sha256.proofs.Lengths.{digest-long}
 use Rattle.rules.specs.Bytes.{part}
-use Rattle.rules.specs.Records.{ballotLength, recordLength}
+use Rattle.rules.specs.Records.{ballotLength}
 use Rattle.rules.specs.Count.{table, start}
 use Rattle.rules.specs.Tests.{firstFault, faultBelow}
 use Rattle.rules.specs.Header.{ranked, Header, header, headerFault}
-use Rattle.rules.specs.Ballot.{ballotFault}
-use Rattle.rules.specs.Check.{place, accepted, refused, recordNumber, recordFault, checkFrom, checkModel, checkBoard}
+use Rattle.rules.specs.Check.{place, kind, accepted, refused, recordNumber, recordFault, checkFrom, checkModel, checkBoard}
 use Rattle.rules.specs.Receipts.{digestCount, digestAt, same, digestsGood, listFault, ballotRecord, frameFault, Finding, numbersFound, findRefused, numberOf, findInBallots, findOnBoard, findOutcome}
 use Rattle.rules.proofs.Faults.{Faulty, first-faulty, faulty-or-none, fault-front}
 use Rattle.rules.proofs.Digests.{same-true, same-refl}
 use Rattle.rules.proofs.Lists.{length-table, table-at}
 use Rattle.rules.proofs.Places.{part-stands}
-use Rattle.rules.proofs.Positions.{number-is}
-use Rattle.jobs.specs.Job.{Job, groupOf}
-use Rattle.jobs.specs.Board.{jobBallot, recordBytes, board}
+use Rattle.rules.proofs.Positions.{number-first}
+use Rattle.jobs.specs.Job.{Job, groupOf, kindOf, rowsOf}
+use Rattle.jobs.specs.Board.{jobDraws, jobBallot, board}
 use Rattle.jobs.specs.Write.{Valid}
 use Rattle.jobs.proofs.FineJob.{fine}
-use Rattle.jobs.proofs.Lengths.{length-record}
+use Rattle.jobs.proofs.Lengths.{length-ballot}
 use Rattle.whole.specs.Receipts.{IsNumberOf, Answered, LongDigests, Receipts}
 use Rattle.whole.proofs.Rules.{header-rules}
 use Rattle.whole.proofs.Sound.Accepted.{header-good}
 use Rattle.whole.proofs.Verdicts.{in-a-record}
-use Rattle.whole.proofs.Complete.{header-same, begun}
-use Rattle.whole.proofs.Complete.Rounds.{Reach, record-stands}
+use Rattle.whole.proofs.Complete.{header-same, kinds-same, ballot-stands}
 use Rattle.whole.proofs.ThirdDemand.{third-demand}
 
 -- an outcome is one or the other
@@ -119,7 +117,7 @@ module _ (hash : List ℕ → List ℕ) (s : List ℕ) where
 
   -- a frame's fault is the record's
   record-fault : (k : ℕ) → (frameFault s k ≡ 0 → ⊥) → fault k ≡ frameFault s k
-  unfolding recordFault ballotFault
+  unfolding recordFault
   record-fault k bad = fault-front _ _ bad
 
   -- the first ballot whose record has a fault
@@ -144,7 +142,7 @@ module _ (hash : List ℕ → List ℕ) (s : List ℕ) where
         fault k,
         recordNumber s (header s) 0 k,
         first-record z (g .0) (g .1),
-        ⊎-elim (λ (e : k ≡ w .0). inl (ap fault e ∙ here, ap (recordNumber s (header s) 0) e)) (λ (l : k < w .0). inr (omega (arith, number-is s (header s) 0 k, number-is s (header s) 0 (w .0))))
+        ⊎-elim (λ (e : k ≡ w .0). inl (ap fault e ∙ here, ap (recordNumber s (header s) 0) e)) (λ (l : k < w .0). inr (omega (arith, number-first s (header s) k, number-first s (header s) (w .0))))
             (eq-or-lt-of-le (le-of-suc-le-suc (lt-of-not-le (λ (l : w .0 < k). bad (g .1 .earlier (w .0) l))))),
       ))
       (λ (none : (k : ℕ) → k < header s .K → fault k ≡ 0). absurd (bad (none (w .0) (f .below))))
@@ -185,14 +183,11 @@ module _ (hash : List ℕ → List ℕ) (job : Job) (v : Valid hash job) where
 
   -- the record on the board is the one written
   record-is : (k : ℕ) → k < job .K → ballotRecord s k ≡ ballot k
-  unfolding recordBytes recordLength
   record-is k l =
       let f = fine hash job v in
-      let e = header-same hash job f in
-      let rounds : job .n ≡ suc (job .n - 1) = omega (arith, f .n-low) in
-      let first : Reach hash job s (suc (job .n - 1)) start 0 [] 0 = subst (λ (n : ℕ). Reach hash job s n start 0 [] 0) rounds (begun hash job f) in
-      subst⁻¹ (λ (h : Header). part s (place s h 0 k) (ballotLength (h .n)) ≡ ballot k) e
-      (part-stands (length-record hash job (groupOf hash job) [] 0 0 k) (record-stands hash job s f e (job .n - 1) start 0 [] 0 first k l))
+      subst⁻¹ (λ (h : Header). part s (place s h 0 k) (ballotLength (h .n) (kind s h k)) ≡ ballot k) (header-same hash job f)
+      (rw (kinds-same hash job f k l)
+      (part-stands (length-ballot hash (job .label) (groupOf hash job) (job .n) (k + 1) (rowsOf job [] k) (job .draws) (jobDraws job 0 k) (kindOf job k)) (ballot-stands hash job f k l)))
 
   written-found : (k : ℕ) → k < job .K → length (hash (ballot k)) ≡ 32 →
       (j : ℕ) × (j ≤ k) × (hash (ballot j) ≡ hash (ballot k)) × (findOutcome hash s (hash (ballot k)) 1 ≡ numbersFound (suc j ∷ []))

@@ -1,6 +1,6 @@
 -- The refusals of the checker and of the writer name what is there.
 use Prim.Native.Nat.{ℕ, zero, suc, _+_, _*_, _-_, _≤_}
-use mathlib.Core.Path.{_≡_, refl, sym, _∙_}
+use mathlib.Core.Path.{_≡_, refl, sym, ap, _∙_}
 use mathlib.Core.Bool.{Bool, true, false, not, true≢false, and-eq-true-iff}
 use mathlib.Core.List.{List, [], _∷_, _++_, append-assoc}
 use mathlib.Core.Logic.{inl, inr}
@@ -16,106 +16,131 @@ use Rattle.jobs.specs.Write.{rankingsGood, jobFault, firstBad, badRanking, jobR
 use Rattle.numbers.proofs.Search.{first-is}
 use Rattle.rules.specs.Tests.{Test, firstFault, faultBelow}
 use Rattle.rules.specs.Header.{ranked, sizes, Header, header, headerFault}
-use Rattle.rules.specs.Ballot.{ballotFault}
 use Rattle.rules.specs.Shift.{shiftFault}
 use Rattle.rules.specs.Sheet.{sheetFields, sheetFault}
-use Rattle.rules.specs.Check.{roundsRead, recordNumber, refused, recordFault, roundSheetFault, checkBoard}
+use Rattle.rules.specs.Records.{isCounted}
+use Rattle.rules.specs.Check.{Position, kind, counted, recordNumber, refused, recordFault, roundSheetFault, checkBoard}
 use Rattle.rules.specs.Receipts.{listFault, frameFault, findRefused, findInBallots, findOnBoard, findOutcome}
 use Rattle.whole.specs.Refusals.{BoardRefusal, JobRefusal, FindRefusal, Refusals}
-use Rattle.numbers.proofs.Tests.{by-cases, and-true, all-true}
+use Rattle.numbers.proofs.Tests.{by-cases, or-false-left, and-true, all-true}
 use Rattle.jobs.proofs.FineJob.{valid, no-refusal}
 use Rattle.rules.proofs.Faults.{fault-none, fault-is, Faulty, first-faulty}
 use Rattle.rules.proofs.Leaving.{not-last}
-use Rattle.rules.proofs.Positions.{number-is}
+use Rattle.rules.proofs.Positions.{position-first, number-next, number-up, number-first, number-later, few-counted}
 use Rattle.whole.proofs.Rules.{header-rules}
 use Rattle.whole.proofs.Sound.Accepted.{header-good}
-use Rattle.whole.specs.SecondDemand.{roundPlace, outBefore, dueAt, sheetNumber, FirstBroken, in-header, in-record, in-sheet, at-end}
+use Rattle.whole.specs.SecondDemand.{roundPlace, outBefore, dueAt, ballotNumber, sheetNumber, FirstBroken, in-header, in-record, in-sheet, at-end}
 use Rattle.whole.proofs.SecondDemand.{Passed, Open, passed-of, passed-fewer, of-open, next-number, early, sheet-fits, second-demand}
 
-abbrev Low : ℕ → Type 0
-Low x = x ≤ 12
+-- the refusals of boards
+abbrev Boards : List ℕ
+Boards = 1 ∷ 2 ∷ 3 ∷ 4 ∷ 5 ∷ 6 ∷ 7 ∷ 8 ∷ 9 ∷ 10 ∷ 11 ∷ 12 ∷ 17 ∷ 18 ∷ 19 ∷ []
 
-low-none : Low (firstFault [])
-low-none = rw fault-none (omega arith)
+abbrev OfBoards : ℕ → Type 0
+OfBoards x = member x (0 ∷ Boards) ≡ true
 
--- one test more, whose refusal is 12 at the most
-low : (t : Test) (ts : List Test) → t .refusal ≤ 12 → Low (firstFault ts) → Low (firstFault (t ∷ ts))
-low t ts l = fault-is Low t ts (λ _. l)
+-- such a number, and where it is 19
+abbrev Due : (P : Type 0) (x : ℕ) → Type 0
+Due P x = OfBoards x × (x ≡ 19 → P)
 
-low-fields : (s : List ℕ) (h : Header) (at i : ℕ) (ts : List Test) → Low (firstFault ts) → Low (firstFault (sheetFields s h at i ++ ts))
-unfolding sheetFields
-low-fields s h at zero ts l = l
-low-fields s h at (suc i) ts l = rw append-assoc (low-fields s h at i _ (low _ _ (omega arith) (low _ _ (omega arith) l)))
+module _ {P : Type 0} where
+  due-none : Due P (firstFault [])
+  unfolding member
+  due-none = rw fault-none (refl, λ z. absurd (omega arith))
+
+  -- one test more
+  due-test : (t : Test) (ts : List Test) → OfBoards (t .refusal) → eqb (t .refusal) 19 ≡ false → Due P (firstFault ts) → Due P (firstFault (t ∷ ts))
+  due-test t ts l ne = fault-is (Due P) t ts (λ _. (l, λ z. absurd (eqb-false (t .refusal) 19 ne z)))
+
+  due-fields : (s : List ℕ) (h : Header) (at C i : ℕ) (ts : List Test) → Due P (firstFault ts) → Due P (firstFault (sheetFields s h at C i ++ ts))
+  unfolding sheetFields member
+  due-fields s h at C zero ts l = l
+  due-fields s h at C (suc i) ts l = rw append-assoc (due-fields s h at C i _ (due-test _ _ refl refl (due-test _ _ refl refl l)))
 
 module _ (hash : List ℕ → List ℕ) (s : List ℕ) where
-  low-header : Low (headerFault hash ranked s)
-  unfolding headerFault
-  low-header =
-      low _ _ (omega arith) (low _ _ (omega arith) (low _ _ (omega arith) (low _ _ (omega arith) (low _ _ (omega arith) low-none))))
+  due-header : {P : Type 0} → Due P (headerFault hash ranked s)
+  unfolding headerFault member
+  due-header = due-test _ _ refl refl (due-test _ _ refl refl (due-test _ _ refl refl (due-test _ _ refl refl (due-test _ _ refl refl due-none))))
 
   module _ (h : Header) where
-    low-record : (a m k : ℕ) → Low (recordFault hash s h a m k)
-    unfolding recordFault ballotFault shiftFault
-    low-record a zero k =
-        low _ _ (omega arith) (low _ _ (omega arith) (low _ _ (omega arith) (low _ _ (omega arith) (low _ _ (omega arith) low-none))))
-    low-record a (suc m) k =
-        low _ _ (omega arith) (low _ _ (omega arith) (low _ _ (omega arith) (low _ _ (omega arith) (low _ _ (omega arith) low-none))))
+    -- 19 is of the last ballot in the first round
+    due-record : (a m k : ℕ) → Due ((m ≡ 0) × (k + 1 ≡ h .K)) (recordFault hash s h a m k)
+    unfolding recordFault shiftFault member
+    due-record a zero k =
+        due-test _ _ refl refl (due-test _ _ refl refl (due-test _ _ refl refl (due-test _ _ refl refl
+        (due-test _ _ refl refl (due-test _ _ refl refl (due-test _ _ refl refl
+        (fault-is (Due ((0 ≡ 0) × (k + 1 ≡ h .K))) _ _ (λ bad. (refl, λ _. (refl, eqb-true (k + 1) (h .K) (not-false _ (or-false-left _ _ bad))))) due-none)))))))
+    due-record a (suc m) k =
+        by-cases (isCounted (kind s h k))
+        (λ c. rw c (due-test _ _ refl refl (due-test _ _ refl refl (due-test _ _ refl refl (due-test _ _ refl refl (due-test _ _ refl refl due-none))))))
+        (λ c. rw c (refl, λ z. absurd (omega arith)))
 
-    low-sheet : (m out : ℕ) → Low (roundSheetFault s h m out)
-    unfolding sheetFault
-    low-sheet m out =
-        low _ _ (omega arith) (low _ _ (omega arith) (low _ _ (omega arith) (low-fields s h _ (h .n) _ (low _ _ (omega arith) (low _ _ (omega arith) low-none)))))
+    due-sheet : {P : Type 0} (m out : ℕ) → Due P (roundSheetFault s h m out)
+    unfolding sheetFault member
+    due-sheet m out =
+        due-test _ _ refl refl (due-test _ _ refl refl (due-test _ _ refl refl
+        (due-fields s h _ (counted s h) (h .n) _ (due-test _ _ refl refl (due-test _ _ refl refl due-none)))))
 
   -- round m begins on the board
   begins : (m : ℕ) → Passed hash s m → roundPlace s m ≤ length s
-  unfolding roundsRead
-  begins zero p = p .head .fits
+  begins zero p = omega (arith, ap (λ (w : Position). w .place) (position-first s (header s)), p .head .fits)
   begins (suc m) p = sheet-fits hash s m (p .sheets m (omega arith))
 
+  -- the records of the first rounds
+  few-records : (m : ℕ) → m + 2 ≤ header s .n → header s .n ≤ 8 → header s .K ≤ 1000 → sheetNumber s m + 1 ≤ 7008
+  few-records zero l eight thousand = omega (arith, number-first s (header s) (header s .K))
+  few-records (suc m) l eight thousand =
+      let few = few-counted s (header s) (header s .K) in
+      let up : m * (counted s (header s) + 1) ≤ 5 * (counted s (header s) + 1) = mul-le-mul-right (counted s (header s) + 1) (omega arith) in
+      omega (arith, number-later s (header s) m (header s .K))
+
   -- a refusal in round m
-  named : (m refusal number : ℕ) → Passed hash s m → Open hash s m → 1 ≤ refusal → Low refusal → number ≤ sheetNumber s m + 1 → BoardRefusal s refusal number
-  unfolding roundsRead
-  named m refusal number p o low high within =
+  named : (m refusal number : ℕ) → Passed hash s m → Open hash s m → 1 ≤ refusal → Due (number ≡ header s .K) refusal → number ≤ sheetNumber s m + 1 → BoardRefusal s refusal number
+  unfolding member
+  named m refusal number p o low due within =
       let early = early hash s m (p .head) o in
       let good = header-good hash s (p .head) in
       record {
-        low = low;
-        high = high;
+        numbered = rw (ne-eqb refusal 0 (λ z. omega arith)) at (due .0);
+        last = due .1;
         rounds = suc m;
         few = omega arith;
         stands = λ r q. let same : r ≡ m = omega arith in rw same (begins m p);
-        within = within;
-        most =
-            let up : (m + 1) * (header s .K + 1) ≤ 7 * (header s .K + 1) = mul-le-mul-right (header s .K + 1) (omega (arith, good .eight)) in
-            omega (arith, good .thousand, number-is s (header s) m (header s .K));
+        within = rw (number-next s (header s) m) within;
+        most = omega (arith, few-records m early (good .eight) (good .thousand));
       }
 
   pub board-refusal : (refusal number : ℕ) → checkBoard hash s ≡ refused refusal number → BoardRefusal s refusal number
+  unfolding member
   board-refusal refusal number e = go (second-demand hash .refused-iff s refusal number .0 e)
     where
+      in-last : (m j : ℕ) → number ≡ ballotNumber s m j → Due ((m ≡ 0) × (j + 1 ≡ header s .K)) refusal → Due (number ≡ header s .K) refusal
+      in-last m j q due = (due .0, λ z. let w = due .1 z in omega (arith, rw (w .0) at q, number-first s (header s) j, w .1))
+
       go : FirstBroken hash s refusal number → BoardRefusal s refusal number
       go (in-header q broken low) =
+          let due : Due (number ≡ header s .K) refusal = rw (← broken) due-header in
           record {
-            low = low;
-            high = rw (← broken) low-header;
+            numbered = rw (ne-eqb refusal 0 (λ z. omega arith)) at (due .0);
+            last = due .1;
             rounds = 0;
             few = omega arith;
             stands = λ m z. absurd (omega arith);
             within = omega arith;
             most = omega arith;
           }
-      go (in-record m j l q before o broken low) =
-          named m refusal number (passed-of hash s m j (rw q at before)) (of-open hash s m j (rw q at o)) low (rw (← broken) (low-record (header s) (outBefore s m) m j))
-          (omega (arith, number-is s (header s) m j, number-is s (header s) m (header s .K)))
+      go (in-record m j l _ q before o broken low) =
+          named m refusal number (passed-of hash s m j (rw q at before)) (of-open hash s m j (rw q at o)) low (in-last m j q (rw broken at (due-record (header s) (outBefore s m) m j)))
+          (omega (arith, number-up s (header s) m j (header s .K) (omega arith)))
       go (in-sheet m q before o broken low) =
           named m refusal number (passed-of hash s m (header s .K) (rw q at before)) (of-open hash s m (header s .K) (rw q at o)) low
-          (rw (← broken) (low-sheet (header s) m (dueAt s m))) (omega arith)
+          (rw (← broken) (due-sheet (header s) m (dueAt s m))) (omega arith)
       go (at-end m q before o closed remain twelve) =
-          named m refusal number (passed-fewer hash s (passed-of hash s (suc m) 0 (rw (q, next-number hash s m) at before))) (of-open hash s m (header s .K) o) (omega arith) (omega arith) (omega arith)
+          named m refusal number (passed-fewer hash s (passed-of hash s (suc m) 0 (rw (q, next-number hash s m) at before))) (of-open hash s m (header s .K) o) (omega arith) (rw twelve (refl, λ z. absurd (omega arith))) (omega arith)
 
 -- ---- jobs
 abbrev Numbers : List ℕ
-Numbers = 3 ∷ 4 ∷ 5 ∷ 13 ∷ 14 ∷ 15 ∷ []
+Numbers = 3 ∷ 4 ∷ 5 ∷ 13 ∷ 17 ∷ 19 ∷ 14 ∷ 15 ∷ []
 
 low-bad : (job : Job) → firstBad job (job .K) ≤ job .K
 low-bad job = elim (first-is (job .K) (λ i. not (isRanking (job .n) (rankingOf job i)))) [ inl z ↦ omega (arith, z .0) | inr o ↦ omega (arith, o .1, o .2) ]
@@ -125,7 +150,7 @@ unfolding jobFault member
 job-number hash job room =
     let P : ℕ → Type 0 = λ x. member x (0 ∷ Numbers) ≡ true in
     let step : (t : Test) (ts : List Test) → P (t .refusal) → P (firstFault ts) → P (firstFault (t ∷ ts)) = λ t ts l. fault-is P t ts (λ _. l) in
-    step _ _ refl (step _ _ refl (step _ _ refl (step _ _ refl (step _ _ refl (step _ _ refl (rw fault-none))))))
+    step _ _ refl (step _ _ refl (step _ _ refl (step _ _ refl (step _ _ refl (step _ _ refl (step _ _ refl (step _ _ refl (rw fault-none))))))))
 
 -- 13 is due only where the rankings are bad
 rankings-bad : (hash : List ℕ → List ℕ) (job : Job) (room : ℕ) → rankingsGood job ≡ true → jobFault hash job room ≡ 13 → ⊥
@@ -135,7 +160,7 @@ rankings-bad hash job room good =
     let other : (t : Test) (ts : List Test) → P (t .refusal) → P (firstFault ts) → P (firstFault (t ∷ ts)) = λ t ts l. fault-is P t ts (λ _. l) in
     other _ _ (λ z. omega arith) (other _ _ (λ z. omega arith) (other _ _ (λ z. omega arith)
     (fault-is P _ _ (λ bad. absurd (true≢false (sym good ∙ bad)))
-    (other _ _ (λ z. omega arith) (other _ _ (λ z. omega arith) (rw fault-none (λ z. omega arith)))))))
+    (other _ _ (λ z. omega arith) (other _ _ (λ z. omega arith) (other _ _ (λ z. omega arith) (other _ _ (λ z. omega arith) (rw fault-none (λ z. omega arith)))))))))
 
 -- and where the sizes are good
 few-rankings : (hash : List ℕ → List ℕ) (job : Job) (room : ℕ) → jobFault hash job room ≡ 13 → job .K ≤ 1000
@@ -178,7 +203,7 @@ job-refusal hash job room number w e =
 
 -- ---- receipts
 abbrev Finds : List ℕ
-Finds = 16 ∷ 15 ∷ 1 ∷ 2 ∷ 3 ∷ 4 ∷ 5 ∷ 6 ∷ []
+Finds = 16 ∷ 15 ∷ 1 ∷ 2 ∷ 3 ∷ 4 ∷ 5 ∷ 6 ∷ 17 ∷ []
 
 -- a number of a list's refusals, or of a board's
 abbrev OfFinds : ℕ → Type 0
@@ -187,7 +212,7 @@ OfFinds x = member x (0 ∷ Finds) ≡ true
 of-finds : (t : Test) (ts : List Test) → OfFinds (t .refusal) → OfFinds (firstFault ts) → OfFinds (firstFault (t ∷ ts))
 of-finds t ts l = fault-is OfFinds t ts (λ _. l)
 
-find-named : (s : List ℕ) (refusal number : ℕ) → OfFinds refusal → (refusal ≡ 0 → ⊥) → (15 ≤ refusal → number ≡ 0) → number ≤ header s .K → number ≤ 1000 → FindRefusal s refusal number
+find-named : (s : List ℕ) (refusal number : ℕ) → OfFinds refusal → (refusal ≡ 0 → ⊥) → (member refusal (16 ∷ 15 ∷ []) ≡ true → number ≡ 0) → number ≤ header s .K → number ≤ 1000 → FindRefusal s refusal number
 unfolding member
 find-named s refusal number of ne lists within most = record { numbered = rw (ne-eqb refusal 0 ne) at of; lists = lists; within = within; most = most }
 
@@ -196,24 +221,27 @@ module _ (hash : List ℕ → List ℕ) (s digests : List ℕ) (room : ℕ) wher
   unfolding listFault member
   of-list = of-finds _ _ refl (of-finds _ _ refl (rw fault-none))
 
-  of-header : OfFinds (headerFault hash ranked s)
+  find-header : OfFinds (headerFault hash ranked s)
   unfolding headerFault member
-  of-header = of-finds _ _ refl (of-finds _ _ refl (of-finds _ _ refl (of-finds _ _ refl (of-finds _ _ refl (rw fault-none)))))
+  find-header = of-finds _ _ refl (of-finds _ _ refl (of-finds _ _ refl (of-finds _ _ refl (of-finds _ _ refl (rw fault-none)))))
 
-  of-frame : (k : ℕ) → OfFinds (frameFault s k)
+  -- neither 15 nor 16 is due to a record
+  abbrev OfFrames : ℕ → Type 0
+  OfFrames x = (member x (0 ∷ Finds) ≡ true) × (member x (16 ∷ 15 ∷ []) ≡ false)
+
+  of-frame : (k : ℕ) → OfFrames (frameFault s k)
   unfolding member
-  of-frame k = of-finds _ _ refl (of-finds _ _ refl (of-finds _ _ refl (rw fault-none)))
-
-  low-frame : (k : ℕ) → Low (frameFault s k)
-  low-frame k = low _ _ (omega arith) (low _ _ (omega arith) (low _ _ (omega arith) low-none))
+  of-frame k =
+      let step : (t : Test) (ts : List Test) → OfFrames (t .refusal) → OfFrames (firstFault ts) → OfFrames (firstFault (t ∷ ts)) = λ t ts l. fault-is OfFrames t ts (λ _. l) in
+      step _ _ (refl, refl) (step _ _ (refl, refl) (step _ _ (refl, refl) (step _ _ (refl, refl) (rw fault-none (refl, refl)))))
 
   -- a ballot's record is refused
   in-ballots : headerFault hash ranked s ≡ 0 → (w : ℕ × ℕ) → Faulty (header s .K) (frameFault s) w → FindRefusal s (w .1) (recordNumber s (header s) 0 (w .0))
   in-ballots z w f =
       let few = header-good hash s (header-rules hash ranked s .0 z) .thousand in
-      let n = number-is s (header s) 0 (w .0) in
-      find-named s _ _ (rw (f .fault) (of-frame (w .0))) (λ e. f .some-fault (sym (f .fault) ∙ e)) (λ l. absurd (omega (arith, f .fault, low-frame (w .0)))) (omega (arith, f .below))
-      (omega (arith, f .below))
+      let n = number-first s (header s) (w .0) in
+      find-named s _ _ (rw (f .fault) (of-frame (w .0) .0)) (λ e. f .some-fault (sym (f .fault) ∙ e)) (λ l. absurd (true≢false (sym l ∙ rw (f .fault) (of-frame (w .0) .1))))
+      (omega (arith, f .below)) (omega (arith, f .below))
 
   pub find-refusal : (refusal number : ℕ) → findOutcome hash s digests room ≡ findRefused refusal number → FindRefusal s refusal number
   unfolding findOutcome findOnBoard findInBallots
@@ -225,7 +253,7 @@ module _ (hash : List ℕ → List ℕ) (s digests : List ℕ) (room : ℕ) wher
       go : (l h : Bool) (v : Option (ℕ × ℕ)) → eqb (listFault digests room) 0 ≡ l → eqb (headerFault hash ranked s) 0 ≡ h → faultBelow (header s .K) (frameFault s) ≡ v → FindRefusal s refusal number
       go false h v el eh ev = same (listFault digests room) 0 (rw (el, findOutcome) at e) (find-named s _ _ of-list (eqb-false _ 0 el) (λ _. refl) (omega arith) (omega arith))
       go true false v el eh ev =
-          same (headerFault hash ranked s) 0 (rw (el, findOutcome, eh, findOnBoard) at e) (find-named s _ _ of-header (eqb-false _ 0 eh) (λ _. refl) (omega arith) (omega arith))
+          same (headerFault hash ranked s) 0 (rw (el, findOutcome, eh, findOnBoard) at e) (find-named s _ _ find-header (eqb-false _ 0 eh) (λ _. refl) (omega arith) (omega arith))
       go true true (some w) el eh ev =
           same (w .1) (recordNumber s (header s) 0 (w .0)) (rw (el, findOutcome, eh, findOnBoard, ev, findInBallots) at e)
           (in-ballots (eqb-true _ 0 eh) w (first-faulty (header s .K) (frameFault s) w ev))
@@ -255,10 +283,16 @@ pub count-limit : (n extra : ℕ) (rankings : List (List ℕ)) → 2 ≤ n →
 unfolding plainCount
 count-limit n extra rankings l = count-ends n rankings n extra start (omega arith) (omega arith)
 
+-- those read with the sheet of round m
+records-in : (s : List ℕ) (h : Header) (m : ℕ) → recordNumber s h m (h .K) + 1 ≡ 1 + (h .K + 1) + m * (counted s h + 1)
+records-in s h zero = omega (arith, number-first s h (h .K))
+records-in s h (suc m) = omega (arith, number-later s h m (h .K))
+
 pub refusals : (hash : List ℕ → List ℕ) → Refusals hash
 refusals hash =
     record {
       of-boards = board-refusal hash;
+      records-read = λ s h m. number-next s h m ∙ records-in s h m;
       of-jobs = job-refusal hash;
       of-finds = find-refusal hash;
       none = λ job room. (valid hash job room, λ w. no-refusal hash job room (w .0) (w .1));

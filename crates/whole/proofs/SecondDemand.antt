@@ -1,10 +1,10 @@
 -- The second demand holds, for every hash.
-use Prim.Native.Nat.{ℕ, zero, suc, _+_, _*_, _-_, _≤_, _<_}
+use Prim.Native.Nat.{ℕ, zero, suc, _+_, _-_, _≤_, _<_}
 use mathlib.Core.Path.{_≡_, refl, sym, subst, _∙_}
 use mathlib.Core.Bool.{true, false, cond}
 use mathlib.Core.List.{List, [], _∷_}
 use mathlib.Core.Logic.{_⊎_, inl, inr, ⊎-elim}
-use native.Mathlib.Nat.{pos-of-ne-zero, mul-le-mul-right, eq-or-lt-of-le}
+use native.Mathlib.Nat.{pos-of-ne-zero, eq-or-lt-of-le, lt-of-not-le}
 use native.Mathlib.Numerals.{add-one}
 use native.Mathlib.Omega.{arith}
 use lib.Dec.{leb, eqb}
@@ -12,14 +12,15 @@ use lib.ListN.{length, length-append}
 use borrow.Author.Tests.{leb-true, leb-false, eqb-true, eqb-false, eq-eqb, ne-eqb}
 use Rattle.numbers.proofs.Search.{extend}
 use Rattle.numbers.proofs.Tests.{by-cases}
+use Rattle.rules.specs.Records.{isCounted, recordsOf}
 use Rattle.rules.specs.Count.{wins}
 use Rattle.rules.specs.Header.{ranked, Header, header, headerFault}
-use Rattle.rules.specs.Check.{Verdict, accepted, refused, recordsRead, roundsRead, counts, ending, recordFault, roundSheetFault, checkFrom, checkModel, checkBoard}
+use Rattle.rules.specs.Check.{Verdict, accepted, refused, kind, counted, recordNumber, counts, ending, recordFault, roundSheetFault, checkFrom, checkModel, checkBoard}
 use Rattle.whole.specs.Rules.{HeaderRules}
-use Rattle.whole.specs.SecondDemand.{roundPlace, standingAt, outBefore, closesAt, dueAt, ballotNumber, sheetNumber, RecordHolds, SheetHolds, EveryRuleHolds, HoldsBefore, OpenBefore, FirstBroken, in-header, in-record, in-sheet, at-end, SecondDemand}
+use Rattle.whole.specs.SecondDemand.{roundPlace, standingAt, outBefore, closesAt, dueAt, ballotNumber, sheetNumber, HasRecord, RecordHolds, SheetHolds, EveryRuleHolds, HoldsBefore, OpenBefore, FirstBroken, in-header, in-record, in-sheet, at-end, SecondDemand}
 use Rattle.rules.proofs.Faults.{Faulty, faulty-or-none}
 use Rattle.rules.proofs.Leaving.{not-last}
-use Rattle.rules.proofs.Positions.{number-is}
+use Rattle.rules.proofs.Positions.{place-round, number-next, number-up, number-past, number-rounds, number-first}
 use Rattle.whole.proofs.FirstFails.{first-fails}
 use Rattle.whole.proofs.Rules.{header-rules, record-rules, round-sheet-rules}
 use Rattle.whole.proofs.Sound.Accepted.{header-good}
@@ -35,21 +36,33 @@ module _ (hash : List ℕ → List ℕ) (s : List ℕ) where
   -- a record's number below another's: it stands in an earlier round, or before it in the same
   number-below : (r j m k : ℕ) → k ≤ K → ballotNumber s r j < ballotNumber s m k → (r < m) ⊎ ((r ≡ m) × (j < k))
   number-below r j m k b l =
-      let l′ : 1 + r * (K + 1) + j < 1 + m * (K + 1) + k = rw (number-is s h r j, number-is s h m k) at l in
       by-cases (leb m r)
       (λ e.
       ⊎-elim
-      (λ (q : m ≡ r). inr (sym q, omega (arith, rw (← q) at l′)))
-      (λ (later : m < r). let up : (m + 1) * (K + 1) ≤ r * (K + 1) = mul-le-mul-right (K + 1) (omega arith) in absurd (omega arith))
+      (λ (q : m ≡ r). inr (sym q, lt-of-not-le (λ (c : k ≤ j). omega (arith, number-up s h r k j c, rw q at l))))
+      (λ (later : m < r). absurd (omega (arith, number-rounds s h m k r j later b)))
       (eq-or-lt-of-le (leb-true m r e)))
       (λ e. inl (leb-false m r e))
 
   sheet-below : (r m k : ℕ) → k ≤ K → sheetNumber s r < ballotNumber s m k → r < m
   sheet-below r m k b l = ⊎-elim (λ (e : r < m). e) (λ (e : (r ≡ m) × (K < k)). absurd (omega (arith, e .1))) (number-below r K m k b l)
 
-  number-above : (r j m k : ℕ) → r < m → j ≤ K → ballotNumber s r j < ballotNumber s m k
-  number-above r j m k l b =
-      let up : (r + 1) * (K + 1) ≤ m * (K + 1) = mul-le-mul-right (K + 1) (omega arith) in omega (arith, number-is s h r j, number-is s h m k)
+  -- the header comes first
+  some-number : (m k : ℕ) → 0 < ballotNumber s m k
+  some-number zero k = omega (arith, number-first s h k)
+  some-number (suc m) k = omega (arith, number-rounds s h 0 0 (suc m) k (omega arith) (omega arith))
+
+  -- what a ballot has no record for breaks no rule
+  where-due : (m k : ℕ) → (HasRecord s h m k → RecordHolds hash s m k) → RecordHolds hash s m k
+  unfolding recordsOf
+  where-due zero k f = f refl
+  where-due (suc m) k f = λ c. f (rw c) c
+
+  -- and what breaks one is a record
+  broken-due : (a m k : ℕ) → 0 < recordFault hash s h a m k → HasRecord s h m k
+  unfolding recordsOf recordFault
+  broken-due a zero k l = refl
+  broken-due a (suc m) k l = by-cases (isCounted (kind s h k)) (λ c. rw c) (λ c. absurd (omega (arith, rw c at l)))
 
   -- before round m no rule is broken
   pub record Passed (m : ℕ) : Type 0 where
@@ -80,7 +93,7 @@ module _ (hash : List ℕ → List ℕ) (s : List ℕ) where
   before-of m k p b here =
       record {
         head = λ _. p .head;
-        records = λ r j c l.
+        records = λ r j c _ l.
             ⊎-elim (λ (e : r < m). p .records r j e c) (λ (e : (r ≡ m) × (j < k)). subst (λ (r : ℕ). RecordHolds hash s r j) (sym (e .0)) (here j (e .1))) (number-below r j m k b l);
         sheets = λ r l. p .sheets r (sheet-below r m k b l);
       }
@@ -91,21 +104,21 @@ module _ (hash : List ℕ → List ℕ) (s : List ℕ) where
   pub passed-of : (m k : ℕ) → HoldsBefore hash s (ballotNumber s m k) → Passed m
   passed-of m k w =
       record {
-        head = w .head (omega (arith, number-is s h m k));
-        records = λ r j l c. w .records r j c (number-above r j m k l (omega arith));
-        sheets = λ r l. w .sheets r (number-above r K m k l (omega arith));
+        head = w .head (some-number m k);
+        records = λ r j l c. where-due r j (λ has. w .records r j c has (number-rounds s h r j m k l (omega arith)));
+        sheets = λ r l. w .sheets r (number-rounds s h r K m k l (omega arith));
       }
 
   pub of-open : (m k : ℕ) → OpenBefore hash s (ballotNumber s m k) → Open m
-  of-open m k o r l = o r (number-above r K m k l (omega arith))
+  of-open m k o r l = o r (number-rounds s h r K m k l (omega arith))
 
   round-of : (m k : ℕ) → k ≤ K → HoldsBefore hash s (ballotNumber s m k) → (j : ℕ) → j < k → recordFault hash s h (outBefore s m) m j ≡ 0
-  round-of m k b w j l = record-rules hash s h (outBefore s m) m j .1 (w .records m j (omega arith) (omega (arith, number-is s h m j, number-is s h m k)))
+  round-of m k b w j l =
+      record-rules hash s h (outBefore s m) m j .1 (where-due m j (λ has. w .records m j (omega arith) has (omega (arith, number-past s h m j k l))))
 
   -- past the sheet of round m
   pub next-number : (m : ℕ) → sheetNumber s m + 1 ≡ ballotNumber s (suc m) 0
-  unfolding recordsRead roundsRead
-  next-number m = refl
+  next-number m = sym (number-next s h m)
 
   -- ---- the checker reaches round m
   sheets-counted : (m : ℕ) → length (standingAt s m .sheets) ≡ m
@@ -115,7 +128,7 @@ module _ (hash : List ℕ → List ℕ) (s : List ℕ) where
 
   pub early : (m : ℕ) → HeaderRules hash ranked s → Open m → m + 2 ≤ h .n
   early zero w o = header-good hash s w .two
-  early (suc m) w o = omega (arith, early m w (λ r l. o r (omega arith)), not-last (h .n) m (standingAt s m) _ K (sheets-counted m) (o m (omega arith)))
+  early (suc m) w o = omega (arith, early m w (λ r l. o r (omega arith)), not-last (h .n) m (standingAt s m) _ (counted s h) (sheets-counted m) (o m (omega arith)))
 
   -- round m as the checker reads it, with what comes after
   abbrev Round : (m fuel : ℕ) → Verdict
@@ -132,8 +145,7 @@ module _ (hash : List ℕ → List ℕ) (s : List ℕ) where
     ends-here e l = goes-on ∙ rw (e, eq-eqb (length s) (roundPlace s (suc m)) l)
 
     bytes-remain : closesAt s m ≡ true → roundPlace s (suc m) < length s → Round m fuel ≡ refused 12 (sheetNumber s m + 1)
-    unfolding roundsRead
-    bytes-remain e l = goes-on ∙ rw (e, ne-eqb (length s) (roundPlace s (suc m)) (λ z. omega arith))
+    bytes-remain e l = goes-on ∙ rw (e, ne-eqb (length s) (roundPlace s (suc m)) (λ z. omega arith), next-number m)
 
   -- it comes to round m if no rule is broken before
   reach : (m fuel : ℕ) → Passed m → Open m → fuel + m ≡ h .n → checkBoard hash s ≡ checkFrom hash s h fuel (standingAt s m) m (outBefore s m)
@@ -145,8 +157,7 @@ module _ (hash : List ℕ → List ℕ) (s : List ℕ) where
       ∙ rw (o m (omega arith))
 
   pub sheet-fits : (m : ℕ) → SheetHolds hash s m → roundPlace s (suc m) ≤ length s
-  unfolding roundsRead
-  sheet-fits m w = w .fits
+  sheet-fits m w = rw (place-round s h m) (w .fits)
 
   -- ---- what the verdict says
   abbrev Says : Verdict → Type 0
@@ -181,7 +192,7 @@ module _ (hash : List ℕ → List ℕ) (s : List ℕ) where
       let low = pos-of-ne-zero (f .some-fault) in
       let small : k ≤ K = omega (arith, f .below) in
       subst Says (sym (in-a-record hash s h fuel (standingAt s m) m (outBefore s m) k (f .below) (f .earlier) low))
-      (in-record m k (f .below) refl (before-of m k p small (λ j l. record-rules hash s h (outBefore s m) m j .0 (f .earlier j l))) (open-of m k o small) refl low))
+      (in-record m k (f .below) (broken-due (outBefore s m) m k low) refl (before-of m k p small (λ j l. record-rules hash s h (outBefore s m) m j .0 (f .earlier j l))) (open-of m k o small) refl low))
       (λ (good : (k : ℕ) → k < K → recordFault hash s h (outBefore s m) m k ≡ 0).
       let records : (k : ℕ) → k < K → RecordHolds hash s m k = λ k l. record-rules hash s h (outBefore s m) m k .0 (good k l) in
       by-cases (eqb (roundSheetFault s h m (dueAt s m)) 0)
@@ -226,7 +237,7 @@ module _ (hash : List ℕ → List ℕ) (s : List ℕ) where
   refuses : (refusal number : ℕ) → FirstBroken hash s refusal number → checkBoard hash s ≡ refused refusal number
   unfolding checkModel
   refuses refusal number (in-header e broken low) = rw (ne-eqb (headerFault hash ranked s) 0 (λ z. omega arith), broken, e)
-  refuses refusal number (in-record m k l e before o broken low) =
+  refuses refusal number (in-record m k l _ e before o broken low) =
       let w = rw e at before in
       reached m (passed-of m k w) (of-open m k (rw e at o)) ∙ in-a-record hash s h _ (standingAt s m) m (outBefore s m) k l (round-of m k (omega arith) w) (rw broken low) ∙ cc
   refuses refusal number (in-sheet m e before o broken low) =
@@ -245,12 +256,37 @@ module _ (hash : List ℕ → List ℕ) (s : List ℕ) where
       go (accepted rounds order winner) w = inl (rounds, order, winner, w)
       go (refused refusal number) w = inr (refusal, number, w)
 
+-- ---- a number names one record
+module _ (s : List ℕ) (h : Header) where
+  same-round : (m k r j : ℕ) → k ≤ h .K → j ≤ h .K → recordNumber s h m k ≡ recordNumber s h r j → m ≡ r
+  same-round m k r j a b e =
+      by-cases (leb m r)
+      (λ t. ⊎-elim (λ (q : m ≡ r). q) (λ (l : m < r). absurd (omega (arith, number-rounds s h m k r j l a))) (eq-or-lt-of-le (leb-true m r t)))
+      (λ t. absurd (omega (arith, number-rounds s h r j m k (leb-false m r t) b)))
+
+  no-sheet : (m k r : ℕ) → k < h .K → HasRecord s h m k → recordNumber s h m k ≡ recordNumber s h r (h .K) → ⊥
+  no-sheet m k r l has e =
+      let same = same-round m k r (h .K) (omega arith) (omega arith) e in omega (arith, rw (← same) at e, number-past s h m k (h .K) l)
+
+  one-record : (m k r j : ℕ) → k < h .K → j < h .K → HasRecord s h m k → HasRecord s h r j → recordNumber s h m k ≡ recordNumber s h r j → (m ≡ r) × (k ≡ j)
+  one-record m k r j a b has has′ e =
+      let same = same-round m k r j (omega arith) (omega arith) e in
+      let here : recordNumber s h m k ≡ recordNumber s h m j = rw (← same) at e in
+      let has″ : HasRecord s h m j = rw (← same) at has′ in (
+        same,
+        by-cases (leb k j)
+            (λ t. ⊎-elim (λ (q : k ≡ j). q) (λ (l : k < j). absurd (omega (arith, number-past s h m k j l))) (eq-or-lt-of-le (leb-true k j t)))
+            (λ t. absurd (omega (arith, number-past s h m j k (leb-false k j t)))),
+      )
+
 pub second-demand : (hash : List ℕ → List ℕ) → SecondDemand hash
 second-demand hash =
     record {
       accepted-iff = λ s rounds order winner. (λ e. subst (Says hash s) e (board-said hash s), accepts hash s rounds order winner);
       refused-iff = λ s refusal number. (λ e. subst (Says hash s) e (board-said hash s), refuses hash s refusal number);
       either = either hash;
+      one-record = one-record;
+      no-sheet = no-sheet;
       first-fails = first-fails;
       header-tests = header-rules hash;
       record-tests = record-rules hash;

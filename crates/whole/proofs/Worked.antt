@@ -7,7 +7,7 @@ use native.Mathlib.Omega.{arith}
 use lib.Dec.{ltb, eqb}
 use lib.ListN.{replicate}
 use borrow.Author.Tests.{le-ltb, ne-eqb}
-use Rattle.numbers.specs.Below.{allBelow}
+use Rattle.numbers.specs.Below.{allBelow, sumBelow}
 use Rattle.numbers.specs.Primes.{isPrime}
 use Rattle.numbers.proofs.Tests.{any-holds, any-fails}
 use Rattle.compression.specs.Words.{ROTR, ¬w, Ch, Maj, Σ₀, Σ₁, σ₀, σ₁}
@@ -18,12 +18,14 @@ use Rattle.group.specs.Arithmetic.{powMod}
 use Rattle.group.specs.Elements.{isElement}
 use Rattle.rules.specs.Group.{orders, paired, derived, generators}
 use Rattle.rules.specs.Proofs.{statementHolds}
-use Rattle.rules.specs.Count.{Standing, roundNumber, member, countOf, fewer, pick, majority, closes, isRanking, table, plainCount}
+use Rattle.rules.specs.Count.{Standing, start, roundNumber, member, countOf, fewer, pick, majority, closes, isRanking, tableWhere, plainCount}
 use Rattle.rules.specs.Openings.{without}
-use Rattle.jobs.specs.Job.{needed, roundDraws, roundAt, boardLength}
+use Rattle.jobs.specs.Job.{countedRankings as jobRankings, plainResult, needed, roundDraws, roundAt, boardLength}
 use Rattle.jobs.specs.Write.{Valid}
-use Rattle.whole.specs.Worked.{small, Pair, circle, smallJob, Circle, Ties, Worked}
-use Rattle.whole.proofs.Complete.{written}
+use Rattle.whole.specs.Worked.{small, Pair, circle, twoOfTwo, smallJob, auditedJob, Circle, Spot, Ties, Worked}
+use Rattle.whole.proofs.Complete.{written, written-shown}
+use Rattle.whole.proofs.Refusals.{count-limit}
+use Rattle.rules.proofs.Leaving.{rounds-over}
 
 pair : (x v : ℕ) → x < 11 → v < 11 → Pair x v (paired small x v) (powMod 23 3 x)
 pair x v a b = record { first = refl; second = refl; opens = record { x-below = a; v-below = b; first = refl; second = refl } }
@@ -46,30 +48,66 @@ more-closes n i st counts l still e =
     rw (any-holds n i (over-half st counts) l (rw (still, e))) (or-true (eqb (roundNumber st) (n - 1)))
 
 module _ (hash : List ℕ → List ℕ) (p q g0 counter : ℕ) (label draws : List ℕ) where
-  circle-size : boardLength (circle p q g0 counter label draws) ≡ 2534
-  unfolding boardLength plainCount table roundAt
+  circle-size : boardLength (circle p q g0 counter label draws) ≡ 2537
+  unfolding boardLength plainCount tableWhere roundAt
   circle-size = refl
 
   circle-draws : needed (circle p q g0 counter label draws) ≡ 222
-  unfolding needed plainCount table roundDraws
+  unfolding needed plainCount tableWhere roundDraws
   circle-draws = refl
 
   goes-around : Valid hash (circle p q g0 counter label draws) → Circle hash (circle p q g0 counter label draws)
-  unfolding plainCount table
+  unfolding plainCount tableWhere
   goes-around v =
       let w = written hash (circle p q g0 counter label draws) v in
       record { size = w .measured ∙ circle-size; draws = circle-draws; verdict = w .accepts }
+
+module _ (hash : List ℕ → List ℕ) (p q g0 counter : ℕ) (label rankings draws : List ℕ) where
+  -- two processes are counted in one round
+  one-round : plainResult (twoOfTwo p q g0 counter label rankings draws) .rounds ≡ 1
+  unfolding plainCount
+  one-round =
+      let job = twoOfTwo p q g0 counter label rankings draws in
+      omega (arith, count-limit 2 0 (jobRankings job) (omega arith) .0, rounds-over 2 (jobRankings job) 2 start)
+
+  two-size : boardLength (twoOfTwo p q g0 counter label rankings draws) ≡ 528
+  unfolding boardLength roundAt
+  two-size = rw one-round
 
 small-made : derived sha256 (replicate 32 0) 23 11 2 1 ≡ 3
 unfolding derived powMod ROTR ¬w Ch Maj Σ₀ Σ₁ σ₀ σ₁ Block.K Block.H₀ Block.word Block.words Block.next Block.schedule Block.T₁ Block.T₂ Block.round Block.rounds Block.sums Block.compress Message.be64 Message.padding Message.padded Message.blocks Message.bytes sha256
 small-made = refl
 
 small-valid : Valid sha256 smallJob
-unfolding orders generators isPrime isElement powMod allBelow isRanking
+unfolding orders generators isPrime isElement powMod allBelow sumBelow isRanking
 small-valid =
     record {
-      passed = record { sized = refl; ordered = refl; labelled = rw small-made; ranked = refl };
+      passed = record { sized = refl; ordered = refl; labelled = rw small-made; ranked = refl; kinds = refl; some-counted = refl };
       drawn = rw (circle-draws sha256 23 11 2 1 (replicate 32 0) (replicate 222 5));
+    }
+
+spot-draws : needed auditedJob ≡ 190
+unfolding needed plainCount tableWhere roundDraws
+spot-draws = refl
+
+spot-size : boardLength auditedJob ≡ 2224
+unfolding boardLength plainCount tableWhere roundAt
+spot-size = refl
+
+spot-valid : Valid sha256 auditedJob
+unfolding orders generators isPrime isElement powMod allBelow sumBelow isRanking
+spot-valid = record { passed = record { sized = refl; ordered = refl; labelled = rw small-made; ranked = refl; kinds = refl; some-counted = refl }; drawn = rw spot-draws }
+
+spotted : Spot
+unfolding plainCount tableWhere
+spotted =
+    let w = written sha256 auditedJob spot-valid in
+    record {
+      valid = spot-valid;
+      size = w .measured ∙ spot-size;
+      draws = spot-draws;
+      verdict = w .accepts;
+      shown = written-shown sha256 auditedJob spot-valid 1 (omega arith) refl .0;
     }
 
 tied : Ties
@@ -104,9 +142,12 @@ worked =
       more = more-closes;
       struck = refl;
       each-way = refl;
+      two-of-two = λ hash p q g0 counter label rankings draws v.
+          written hash (twoOfTwo p q g0 counter label rankings draws) v .measured ∙ two-size hash p q g0 counter label rankings draws;
       around = goes-around;
       made = small-made;
       small-valid = small-valid;
       small-around = goes-around sha256 23 11 2 1 (replicate 32 0) (replicate 222 5) small-valid;
+      spot = spotted;
       ties = tied;
     }

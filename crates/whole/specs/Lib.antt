@@ -1,7 +1,9 @@
--- What is claimed of whole boards: the second and the third demand, what the refusals name, the receipts found, the messages of challenges, and the starred cases.
+-- What is claimed of whole boards: the second and the third demand, audited ballots, what the refusals name, the receipts found, the messages of
+-- challenges, and the starred cases.
 pub mod Rules
 pub mod SecondDemand
 pub mod ThirdDemand
+pub mod Audited
 pub mod Refusals
 pub mod EqualCounts
 pub mod Receipts

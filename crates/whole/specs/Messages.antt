@@ -8,12 +8,12 @@ use lib.ListN.{length}
 use Rattle.numbers.specs.Below.{sumBelow}
 use Rattle.rules.specs.Bytes.{number2}
 use Rattle.rules.specs.Proofs.{Statement, Commitments, Context, commitmentsAt, message, challenge}
-use Rattle.rules.specs.Records.{headerLength, hasMark}
+use Rattle.rules.specs.Records.{headerLength, hasMark, isCounted}
 use Rattle.rules.specs.Claims.{entryClaim, rowClaim, columnClaim, shiftClaim}
 use Rattle.rules.specs.Header.{Header, header}
 use Rattle.rules.specs.Ballot.{entryProof, rowProof, columnProof, entryPlace, rowPlace, columnPlace, ballotContext}
 use Rattle.rules.specs.Shift.{shiftProof, shiftContext}
-use Rattle.rules.specs.Check.{accepted, refused, place, matrix, checkBoard}
+use Rattle.rules.specs.Check.{accepted, refused, place, kind, matrix, checkBoard}
 use Rattle.whole.specs.Rules.{e}
 use Rattle.whole.specs.SecondDemand.{outBefore}
 
@@ -84,12 +84,12 @@ pub record SameProof (x y : Hashed) : Type 0 where
   pub same-commitments : (l i : ℕ) → l < branches x → i < statements x → x .commitments l i ≡ y .commitments l i
 
 -- ---- on a board
--- with n processes and so many rounds a board has these proofs for each ballot
-unfoldable pub OnBoard : (n rounds : ℕ) → Form → Type 0
-OnBoard n rounds (entry i j) = (i < n) × (j < n)
-OnBoard n rounds (row i) = i < n
-OnBoard n rounds (column j) = j < n
-OnBoard n rounds (shift m) = suc m < rounds
+-- with n processes and so many rounds a board has these proofs for a ballot of a kind: an audited ballot "has no SH" (02, L5)
+unfoldable pub OnBoard : (n rounds kind : ℕ) → Form → Type 0
+OnBoard n rounds kind (entry i j) = (i < n) × (j < n)
+OnBoard n rounds kind (row i) = i < n
+OnBoard n rounds kind (column j) = j < n
+OnBoard n rounds kind (shift m) = (suc m < rounds) × (isCounted kind ≡ true)
 
 module _ (s : List ℕ) (k : ℕ) where
   abbrev h : Header
@@ -133,10 +133,10 @@ pub record Messages (hash : List ℕ → List ℕ) : Type 0 where
   pub told : (x y : Hashed) → Fits x → Fits y → hashedMessage x ≡ hashedMessage y → SameProof x y
   -- every proof of an accepted board fits, and its challenges add up to the one made of its message
   pub of-boards : (s : List ℕ) (rounds : ℕ) (order : List ℕ) (winner : ℕ) → checkBoard hash s ≡ accepted rounds order winner →
-      (k : ℕ) (f : Form) → k < header s .K → OnBoard (header s .n) rounds f →
+      (k : ℕ) (f : Form) → k < header s .K → OnBoard (header s .n) rounds (kind s (header s) k) f →
       let x = onBoard s k f in
       Fits x × (sumBelow (branches x) (e s (header s .group) (proofOf s k f) (branches x) (statements x)) % header s .group .q ≡ challenge hash (hashedMessage x) (header s .group .q))
   -- so no two proofs of one accepted board have the same message
   pub apart : (s : List ℕ) (rounds : ℕ) (order : List ℕ) (winner : ℕ) → checkBoard hash s ≡ accepted rounds order winner →
-      (k k' : ℕ) (f f' : Form) → k < header s .K → k' < header s .K → OnBoard (header s .n) rounds f → OnBoard (header s .n) rounds f' →
+      (k k' : ℕ) (f f' : Form) → k < header s .K → k' < header s .K → OnBoard (header s .n) rounds (kind s (header s) k) f → OnBoard (header s .n) rounds (kind s (header s) k') f' →
       hashedMessage (onBoard s k f) ≡ hashedMessage (onBoard s k' f') → (k ≡ k') × (f ≡ f')

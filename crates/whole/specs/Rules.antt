@@ -1,7 +1,8 @@
 -- What the rules ask of each record of a board, line by line of 01's table: beside each stands the number of the refusal where it is broken.
 use Prim.Native.Nat.{ℕ, _+_, _*_, _-_, _%_, _≤_, _<_}
 use mathlib.Core.Path.{_≡_}
-use mathlib.Core.Bool.{true}
+use mathlib.Core.Logic.{_⊎_}
+use mathlib.Core.Bool.{Bool, true, cond}
 use mathlib.Core.List.{List}
 use lib.ListN.{length, getD}
 use Rattle.numbers.specs.Below.{sumBelow, prodBelow}
@@ -9,11 +10,13 @@ use Rattle.group.specs.Arithmetic.{mulMod, powMod}
 use Rattle.group.specs.Elements.{isElement, Parameters}
 use Rattle.rules.specs.Bytes.{number2, number4}
 use Rattle.rules.specs.Group.{paired, orders, generators}
-use Rattle.rules.specs.Records.{BA, SH, RT, hasMark, headerLength, ballotLength, shiftLength, sheetLength}
+use Rattle.rules.specs.Records.{BA, SH, RT, hasMark, headerLength, kindAt, isAudited, ballotLength, shiftLength, sheetLength}
 use Rattle.rules.specs.Proofs.{Statement, Context, branchAt, statementAt, commitmentsAt, message, challenge}
 use Rattle.rules.specs.Claims.{Matrix, matrixAt, entryClaim, rowClaim, columnClaim, shiftClaim}
+use Rattle.rules.specs.Count.{isRanking}
 use Rattle.rules.specs.Header.{sizes, Header, header, counterField}
-use Rattle.rules.specs.Ballot.{entryProof, rowProof, columnProof, entryPlace, rowPlace, columnPlace, ballotContext}
+use Rattle.rules.specs.Audit.{valueOf, shownExponent, shownRanking}
+use Rattle.rules.specs.Ballot.{ballotMatrix, entryProof, rowProof, columnProof, entryPlace, rowPlace, columnPlace, ballotContext}
 use Rattle.rules.specs.Shift.{shiftProof, shiftContext}
 use Rattle.rules.specs.Sheet.{outAt, countAt, exponentAt}
 use Rattle.rules.specs.declared.Model.{Model}
@@ -66,6 +69,17 @@ pub record HeaderRules (hash : List ℕ → List ℕ) (model : Model) (s : List 
   -- 5: "a rule on g0 or g1 broken"
   pub generated : generators hash (header s .label) (counterField s) (header s .group) ≡ true
 
+-- what the audited BA record at a place shows (02, L5): "An audited record ends with n² exponents x (4 bytes each) and the ranking (n bytes), and every
+-- pair must open so."
+pub record ShownRules (s : List ℕ) (h : Header) (at : ℕ) : Type 0 where
+  -- 7: "x ≥ q stays 7"
+  pub small : (i j : ℕ) → i < h .n → j < h .n → shownExponent s (h .n) at i j < h .group .q
+  -- 18: "last n bytes that are no ranking or a pair that does not open so"
+  pub ranking : isRanking (h .n) (shownRanking s (h .n) at) ≡ true
+  pub opens-b : (i j : ℕ) → i < h .n → j < h .n →
+      ballotMatrix s (h .n) at .b i j ≡ paired (h .group) (shownExponent s (h .n) at i j) (valueOf (shownRanking s (h .n) at) i j)
+  pub opens-y : (i j : ℕ) → i < h .n → j < h .n → ballotMatrix s (h .n) at .y i j ≡ powMod (h .group .p) (h .group .g1) (shownExponent s (h .n) at i j)
+
 module _ (hash : List ℕ → List ℕ) (s : List ℕ) (h : Header) where
   -- a proof at a place, with the bases g0 and g1 and the board's label
   abbrev pub ProofHolds : (context : Context) (at branches statements : ℕ) (claim : (l i : ℕ) → Statement) → Type 0
@@ -78,50 +92,57 @@ module _ (hash : List ℕ → List ℕ) (s : List ℕ) (h : Header) where
 
   -- BA, that of the ballot with a number
   pub record BallotRules (at number : ℕ) : Type 0 where
-    -- 1
-    pub fits : at + ballotLength (h .n) ≤ length s
+    -- 1: "The length test reads up to the kind byte first" (02, L5)
+    pub fits : at + ballotLength (h .n) (kindAt s at) ≤ length s
     -- 2
     pub marked : hasMark s at BA ≡ true
     -- 6: "number or round not the one due"
     pub numbered : number2 s (at + 2) ≡ number
+    -- 17, "another kind (after 6 ..)": "0 counted, 1 audited"
+    pub kinded : (kindAt s at ≡ 0) ⊎ (kindAt s at ≡ 1)
     -- 7: "n² pairs (b 4, Y 4) by rows; n² entry, n row, n column proofs"
-    pub pairs : PairRules (h .group) (h .n) (h .n) (matrixAt s (h .n) at)
+    pub pairs : PairRules (h .group) (h .n) (h .n) (ballotMatrix s (h .n) at)
     pub entry-fields : (i j : ℕ) → i < h .n → j < h .n → ProofFields s (h .group) (entryProof (h .n) at i j) 2 1
     pub row-fields : (i : ℕ) → i < h .n → ProofFields s (h .group) (rowProof (h .n) at i) 1 1
     pub column-fields : (j : ℕ) → j < h .n → ProofFields s (h .group) (columnProof (h .n) at j) 1 1
     -- 8: "a proof fails"
     pub entries : (i j : ℕ) → i < h .n → j < h .n →
-        ProofHolds (inBallot at (entryPlace (h .n) i j)) (entryProof (h .n) at i j) 2 1 (λ l _. entryClaim (h .group) (matrixAt s (h .n) at .b i j) (matrixAt s (h .n) at .y i j) l)
+        ProofHolds (inBallot at (entryPlace (h .n) i j)) (entryProof (h .n) at i j) 2 1 (λ l _. entryClaim (h .group) (ballotMatrix s (h .n) at .b i j) (ballotMatrix s (h .n) at .y i j) l)
     pub rows : (i : ℕ) → i < h .n →
-        ProofHolds (inBallot at (rowPlace (h .n) i)) (rowProof (h .n) at i) 1 1 (λ _ _. rowClaim (h .group) (h .n) (matrixAt s (h .n) at) i)
+        ProofHolds (inBallot at (rowPlace (h .n) i)) (rowProof (h .n) at i) 1 1 (λ _ _. rowClaim (h .group) (h .n) (ballotMatrix s (h .n) at) i)
     pub columns : (j : ℕ) → j < h .n →
-        ProofHolds (inBallot at (columnPlace (h .n) j)) (columnProof (h .n) at j) 1 1 (λ _ _. columnClaim (h .group) (h .n) (matrixAt s (h .n) at) j)
+        ProofHolds (inBallot at (columnPlace (h .n) j)) (columnProof (h .n) at j) 1 1 (λ _ _. columnClaim (h .group) (h .n) (ballotMatrix s (h .n) at) j)
+    -- 7 and 18 of an audited record
+    pub shown : isAudited (kindAt s at) ≡ true → ShownRules s h at
 
-  -- SH of R rows, in a round from 1; the same ballot's record a round earlier stands at before, and a went out in that round
+  -- SH of R rows, in a round from 1; the pairs of the same ballot's record a round earlier start at before, and a went out in that round
   pub record ShiftRules (R at round a before number : ℕ) : Type 0 where
     -- 1, 2 and 6
     pub fits : at + shiftLength (h .n) R ≤ length s
     pub marked : hasMark s at SH ≡ true
     pub numbered : number2 s (at + 2) ≡ number
     -- 7: "R × n pairs; one shift proof", of "R+1 branches"
-    pub pairs : PairRules (h .group) R (h .n) (matrixAt s (h .n) at)
+    pub pairs : PairRules (h .group) R (h .n) (matrixAt s (h .n) (at + 4))
     pub proof-fields : ProofFields s (h .group) (shiftProof (h .n) R at) (R + 1) (2 + R * h .n)
     -- 8
     pub proof : ProofHolds (shiftContext round (number2 s (at + 2))) (shiftProof (h .n) R at) (R + 1) (2 + R * h .n)
-        (λ l i. shiftClaim (h .group) (h .n) (matrixAt s (h .n) before) (matrixAt s (h .n) at) (a - 1) l i)
+        (λ l i. shiftClaim (h .group) (h .n) (matrixAt s (h .n) before) (matrixAt s (h .n) (at + 4)) (a - 1) l i)
 
--- RT, that of a round, from 1, whose ballots have these matrices; out: what its out field is to hold
-pub record SheetRules (s : List ℕ) (h : Header) (at round : ℕ) (ballots : ℕ → Matrix) (out : ℕ) : Type 0 where
+-- RT, that of a round, from 1, whose ballots have these matrices, and of which those that a test picks are counted; out: what its out field is to hold
+pub record SheetRules (s : List ℕ) (h : Header) (at round : ℕ) (picks : ℕ → Bool) (ballots : ℕ → Matrix) (out : ℕ) : Type 0 where
   -- 1, 2 and 6
   pub fits : at + sheetLength (h .n) ≤ length s
   pub marked : hasMark s at RT ≡ true
   pub numbered : getD s (at + 2) 0 ≡ round
   -- 7: "s, e, r ≥ q", of each column's s
   pub small : (i : ℕ) → i < h .n → exponentAt s at i < h .group .q
-  -- 9, "in that same walk: count > K"
-  pub counted : (i : ℕ) → i < h .n → countAt s at i ≤ h .K
-  -- 10: "For column i of round m, over all K ballots' first rows: product of b = g0^s × g1^count, product of Y = g1^s."
-  pub tally-b : (i : ℕ) → i < h .n → prodBelow (h .K) (λ k. ballots k .b 0 i) % h .group .p ≡ paired (h .group) (exponentAt s at i) (countAt s at i)
-  pub tally-y : (i : ℕ) → i < h .n → prodBelow (h .K) (λ k. ballots k .y 0 i) % h .group .p ≡ powMod (h .group .p) (h .group .g1) (exponentAt s at i)
+  -- 9, "in that same walk: count > K"; 02, L5: "the count limit of 9" is "over counted ballots"
+  pub few : (i : ℕ) → i < h .n → countAt s at i ≤ sumBelow (h .K) (λ k. cond (picks k) 1 0)
+  -- 10: "For column i of round m, over all K ballots' first rows: product of b = g0^s × g1^count, product of Y = g1^s."; 02, L5: an audited ballot
+  -- "enters no product"
+  pub tally-b : (i : ℕ) → i < h .n →
+      prodBelow (h .K) (λ k. cond (picks k) (ballots k .b 0 i) 1) % h .group .p ≡ paired (h .group) (exponentAt s at i) (countAt s at i)
+  pub tally-y : (i : ℕ) → i < h .n →
+      prodBelow (h .K) (λ k. cond (picks k) (ballots k .y 0 i) 1) % h .group .p ≡ powMod (h .group .p) (h .group .g1) (exponentAt s at i)
   -- 11: "out is not the one due"
   pub out-due : outAt s at ≡ out

@@ -15,6 +15,7 @@ use Rattle.rules.specs.Openings.{Opening, without}
 use Rattle.jobs.specs.Job.{Job, needed}
 use Rattle.jobs.specs.Board.{board}
 use Rattle.jobs.specs.Write.{Valid}
+use Rattle.whole.specs.Audited.{rankingShown}
 
 abbrev pub small : Parameters
 small = record { p = 23; q = 11; g0 = 2; g1 = 3 }
@@ -25,20 +26,60 @@ pub record Pair (x v b y : ℕ) : Type 0 where
   pub second : powMod 23 3 x ≡ y
   pub opens : Opening small b y x v
 
--- a job of the rankings (1,2,3), (2,3,1), (3,1,2)
+-- a job of the rankings (1,2,3), (2,3,1), (3,1,2), all counted
 abbrev pub circle : (p q g0 counter : ℕ) (label draws : List ℕ) → Job
 circle p q g0 counter label draws =
-    record { n = 3; K = 3; p = p; q = q; g0 = g0; counter = counter; label = label; rankings = 1 ∷ 2 ∷ 3 ∷ 2 ∷ 3 ∷ 1 ∷ 3 ∷ 1 ∷ 2 ∷ []; draws = draws }
+    record {
+      n = 3;
+      K = 3;
+      p = p;
+      q = q;
+      g0 = g0;
+      counter = counter;
+      label = label;
+      rankings = 1 ∷ 2 ∷ 3 ∷ 2 ∷ 3 ∷ 1 ∷ 3 ∷ 1 ∷ 2 ∷ [];
+      kinds = 0 ∷ 0 ∷ 0 ∷ [];
+      draws = draws;
+    }
+
+-- a job of two counted ballots of two processes
+abbrev pub twoOfTwo : (p q g0 counter : ℕ) (label rankings draws : List ℕ) → Job
+twoOfTwo p q g0 counter label rankings draws =
+    record { n = 2; K = 2; p = p; q = q; g0 = g0; counter = counter; label = label; rankings = rankings; kinds = 0 ∷ 0 ∷ []; draws = draws }
 
 -- one in the small group: SHA-256 makes g1 = 3 of a label of 32 zeros and counter 1
 abbrev pub smallJob : Job
 smallJob = circle 23 11 2 1 (replicate 32 0) (replicate 222 5)
 
--- "2,534 bytes, 222 draws", and the verdict that boardcheck prints
+-- "2,534 bytes, 222 draws", with a kind byte in each BA 2,537 (02, L5), and the verdict that boardcheck prints
 pub record Circle (hash : List ℕ → List ℕ) (job : Job) : Type 0 where
-  pub size : length (board hash job) ≡ 2534
+  pub size : length (board hash job) ≡ 2537
   pub draws : needed job ≡ 222
   pub verdict : checkBoard hash (board hash job) ≡ accepted 2 (3 ∷ []) 1
+
+-- the same rankings in the small group with the second ballot audited (02, L5): counted are (1,2,3) and (3,1,2), and the second shows (2,3,1)
+abbrev pub auditedJob : Job
+auditedJob =
+    record {
+      n = 3;
+      K = 3;
+      p = 23;
+      q = 11;
+      g0 = 2;
+      counter = 1;
+      label = replicate 32 0;
+      rankings = 1 ∷ 2 ∷ 3 ∷ 2 ∷ 3 ∷ 1 ∷ 3 ∷ 1 ∷ 2 ∷ [];
+      kinds = 0 ∷ 1 ∷ 0 ∷ [];
+      draws = replicate 190 5;
+    }
+
+-- what is written for it, and the verdict
+pub record Spot : Type 0 where
+  pub valid : Valid sha256 auditedJob
+  pub size : length (board sha256 auditedJob) ≡ 2224
+  pub draws : needed auditedJob ≡ 190
+  pub verdict : checkBoard sha256 (board sha256 auditedJob) ≡ accepted 2 (2 ∷ []) 1
+  pub shown : rankingShown (board sha256 auditedJob) 1 ≡ 2 ∷ 3 ∷ 1 ∷ []
 
 -- those gone out, and the sheets of the rounds so far
 abbrev pub after : (gone : List ℕ) (sheets : List (List ℕ)) → Standing
@@ -96,11 +137,16 @@ pub record Worked : Type 0 where
   pub struck : without 1 (without 4 (4 ∷ 2 ∷ 1 ∷ 3 ∷ [])) ≡ 2 ∷ 3 ∷ []
   -- "n = 2, one ballot each way: closes in round 1, winner 1"
   pub each-way : plainCount 2 ((1 ∷ 2 ∷ []) ∷ (2 ∷ 1 ∷ []) ∷ []) ≡ record { rounds = 1; counts = (1 ∷ 1 ∷ []) ∷ []; order = []; winner = 1 }
+  -- "n = 2, K = 2: 526 bytes", which become 528 (02, L5): whatever the rankings
+  pub two-of-two : (hash : List ℕ → List ℕ) (p q g0 counter : ℕ) (label rankings draws : List ℕ) →
+      Valid hash (twoOfTwo p q g0 counter label rankings draws) → length (board hash (twoOfTwo p q g0 counter label rankings draws)) ≡ 528
   -- "Rankings (1,2,3), (2,3,1), (3,1,2)", in any valid group, and in the small one
   pub around : (hash : List ℕ → List ℕ) (p q g0 counter : ℕ) (label draws : List ℕ) →
       Valid hash (circle p q g0 counter label draws) → Circle hash (circle p q g0 counter label draws)
   pub made : derived sha256 (replicate 32 0) 23 11 2 1 ≡ 3
   pub small-valid : Valid sha256 smallJob
   pub small-around : Circle sha256 smallJob
+  -- one ballot audited
+  pub spot : Spot
   -- equal counts
   pub ties : Ties

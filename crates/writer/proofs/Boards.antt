@@ -11,8 +11,8 @@ use Rattle.numbers.specs.Below.{concatBelow}
 use Rattle.sha256.specs.Message.{sha256}
 use Rattle.group.specs.Elements.{Parameters}
 use Rattle.rules.specs.Answers.{withZeros}
-use Rattle.rules.specs.Count.{Result, table, isRanking}
-use Rattle.jobs.specs.Job.{Job, groupOf, rankingOf, needed, boardLength, plainResult, roundDraws, roundAt}
+use Rattle.rules.specs.Count.{Result, isRanking}
+use Rattle.jobs.specs.Job.{Job, groupOf, rankingOf, kindOf, countedRankings, needed, boardLength, plainResult, roundDraws, roundAt}
 use Rattle.jobs.specs.Board.{headerBytes, boardBytes, board}
 use Rattle.jobs.specs.Write.{boardWritten, writeOutcome, writeOutput, Valid}
 use Rattle.jobs.specs.Replies.{outcomeOf}
@@ -23,6 +23,7 @@ use Rattle.count.specs.State.{listOf, resultOf}
 use Rattle.count.specs.declared.Ended.{Ended}
 use Rattle.count.proofs.Picks.{padded-order}
 use Rattle.plain.proofs.Sheets.{sheets-are}
+use Rattle.validity.proofs.Tests.{kinds-many}
 use Rattle.plain.specs.declared.rounds.Measure.{Measure}
 use Rattle.output.specs.Written.{written}
 use Rattle.boards.specs.Parts.{Writable, Sheeted, roundBytes}
@@ -34,7 +35,7 @@ use Rattle.writer.proofs.Outcomes.{Answered}
 -- a job with the numbers of a group
 abbrev inGroup : Job → Parameters → Job
 inGroup job g =
-    record { n = job .n; K = job .K; p = g .p; q = g .q; g0 = g .g0; counter = job .counter; label = job .label; rankings = job .rankings; draws = job .draws }
+    record { n = job .n; K = job .K; p = g .p; q = g .q; g0 = g .g0; counter = job .counter; label = job .label; rankings = job .rankings; kinds = job .kinds; draws = job .draws }
 
 -- the bytes that the code writes for a job
 abbrev pub bytesFor : Job → Parameters → (order : List ℕ) (rounds : ℕ) → List ℕ
@@ -51,7 +52,7 @@ module _ (job : Job) (v : Valid sha256 job) where
   ranked : (k : ℕ) → k < job .K → isRanking (job .n) (rankingOf job k) ≡ true
   ranked = fine sha256 job v .ranked
 
-  able : (order : List ℕ) (rounds : ℕ) → order ≡ withZeros (plainResult job .order) → rounds ≡ plainResult job .rounds → roundDraws (job .n) (job .K) rounds ≤ 10000000 → Writable job order rounds
+  able : (order : List ℕ) (rounds : ℕ) → order ≡ withZeros (plainResult job .order) → rounds ≡ plainResult job .rounds → roundDraws (job .n) (kindOf job) (job .K) rounds ≤ 10000000 → Writable job order rounds
   unfolding needed
   able order rounds eo er low =
       let f = fine sha256 job v in
@@ -64,9 +65,9 @@ module _ (job : Job) (v : Valid sha256 job) where
       (record {
         n-low = f .n-low;
         n-high = f .n-high;
-        K-low = f .K-low;
         K-high = f .K-high;
         listed = eqb-true _ _ (d .0);
+        kinds = kinds-many job (v .passed .kinds);
         few = few-rounds sha256 job (groupOf sha256 job) ranked many;
         drawn =
             record {
@@ -120,11 +121,11 @@ module _ (job : Job) (v : Valid sha256 job) where
         (able (c .count .gone .order) rounds order-counted rounds-counted (rw (rounds-counted, ← (w .needed)) (w .small)))
 
     pub sheeted : Sheeted (inGroup job g) (c .count)
-    sheeted = sheets-are (job .n) (table (job .K) (rankingOf job)) c (w .counted)
+    sheeted = sheets-are (job .n) (countedRankings job) c (w .counted)
 
-    pub room : (54 ≤ m .length) × (roundAt (job .n) (job .K) rounds ≤ m .length)
+    pub room : (54 ≤ m .length) × (roundAt (job .n) (kindOf job) (job .K) rounds ≤ m .length)
     unfolding boardLength
-    room = let long : roundAt (job .n) (job .K) rounds ≡ m .length = rw rounds-counted (sym (w .length)) in (omega (arith, place-least (job .n) (job .K) rounds), omega arith)
+    room = let long : roundAt (job .n) (kindOf job) (job .K) rounds ≡ m .length = rw rounds-counted (sym (w .length)) in (omega (arith, place-least (job .n) (kindOf job) (job .K) rounds), omega arith)
 
     -- past the board the output is as it was
     wrote : (o : List ℕ) → written (bytesFor job g (c .count .gone .order) rounds) o ≡ board sha256 job ++ drop (boardLength job) o

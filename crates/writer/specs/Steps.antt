@@ -24,9 +24,9 @@ pub record Measured (job : Job) (e : Ended) (m : Measure) : Type 0 where
   pub small : m .needed ≤ 10000000
 
 -- the bytes of a board of so many rounds, in whose rounds processes go out in an order
-abbrev pub bytesOf : Head → (label rankings draws order : List ℕ) (rounds : ℕ) → List ℕ
-bytesOf head label rankings draws order rounds =
-    let job = boardJob head label rankings draws in
+abbrev pub bytesOf : Head → (label rankings kinds draws order : List ℕ) (rounds : ℕ) → List ℕ
+bytesOf head label rankings kinds draws order rounds =
+    let job = boardJob head label rankings kinds draws in
     headerBytes sha256 job (headGroup head) ++ concatBelow rounds (roundBytes sha256 job (headGroup head) order)
 
 -- the output has room for so many bytes, and they are written; or it has not, and stays as it is

@@ -19,10 +19,9 @@ ghost use Rattle.jobs.specs.Write.{boardWritten, jobRefused, writeOutcome, writ
 ghost use Rattle.jobs.specs.Replies.{outcomeOf, orderWritten};
 ghost use Rattle.statements.specs.Values.{Ready};
 ghost use Rattle.count.specs.State.{listOf, Kept};
-ghost use Rattle.boards.specs.Parts.{boardJob, Writable, Sheeted};
+ghost use Rattle.boards.specs.Parts.{boardJob, bytesBefore, Writable, Sheeted};
 ghost use Rattle.validity.specs.Jobs.{jobOf};
 ghost use Rattle.writer.specs.Steps.{bytesOf, Put};
-ghost use Rattle.jobs.specs.Job.{roundAt};
 
 fn refused(refusal: Refusal, ranking: usize) -> Written
     ensures { λ r. ⌜ (outcomeOf r ≡ jobRefused (refusalNumber refusal) ranking) × (r .order ≡ replicate 8 0) ⌝ }
@@ -49,41 +48,55 @@ fn board_written(ended: Ended, length: usize) -> Written
     }
 }
 
-// The board of a count that has ended, where the output has room for its length.
+// What is to be written: the board's header, the count that has ended, and its length.
+struct Board {
+    head: Head,
+    count: Count,
+    length: usize,
+}
+
+// The board, where the output has room for its length.
 fn put_board(
     out: &mut [u8],
     label: &[u8],
-    head: Head,
     rankings: &[u8],
+    kinds: &[u8],
     draws: &[u32],
-    count: Count,
-    room: usize,
+    b: Board,
 ) -> bool
-    requires { ⌜ Ready (head .setup) × Writable (boardJob head (now label) (now rankings) (now draws)) (count .gone .order) (count .gone .outs + 1) × Sheeted (boardJob head (now label) (now rankings) (now draws)) count × (length (now label) ≡ 32) ⌝ }
-    requires { ⌜ (headerLength ≤ room) × (roundAt (head .n) (head .k) (count .gone .outs + 1) ≤ room) ⌝ }
-    ensures { λ r. ⌜ Put room (bytesOf head (now (label .entry)) (now (rankings .entry)) (now (draws .entry)) (count .gone .order) (count .gone .outs + 1)) (now (out .entry)) (now (out .exit)) r ⌝ }
+    requires { ⌜ Ready (b .head .setup) × Writable (boardJob (b .head) (now label) (now rankings) (now kinds) (now draws)) (b .count .gone .order) (b .count .gone .outs + 1) × Sheeted (boardJob (b .head) (now label) (now rankings) (now kinds) (now draws)) (b .count) × (length (now label) ≡ 32) ⌝ }
+    requires { ⌜ (headerLength ≤ b .length) × (bytesBefore (boardJob (b .head) (now label) (now rankings) (now kinds) (now draws)) (b .count .gone .outs + 1) ≤ b .length) ⌝ }
+    ensures { λ r. ⌜ Put (b .length) (bytesOf (b .head) (now (label .entry)) (now (rankings .entry)) (now (kinds .entry)) (now (draws .entry)) (b .count .gone .order) (b .count .gone .outs + 1)) (now (out .entry)) (now (out .exit)) r ⌝ }
 {
-    if out.len() < room {
+    if out.len() < b.length {
         return false;
     }
-    rounds::write_board(out, label, head, rankings, draws, count);
+    let count = b.count;
+    rounds::write_board(out, label, b.head, rankings, kinds, draws, count);
     true
 }
 
 // The board of a job, or why there is none.
-pub fn write(job: Job, label: &[u8], rankings: &[u8], draws: &[u32], out: &mut [u8]) -> Written
-    ensures { λ r. ⌜ outcomeOf r ≡ writeOutcome sha256 (jobOf job (now (label .entry)) (now (rankings .entry)) (now (draws .entry))) (length (now (out .entry))) ⌝ }
-    ensures { λ r. ⌜ r .order ≡ orderWritten (writeOutcome sha256 (jobOf job (now (label .entry)) (now (rankings .entry)) (now (draws .entry))) (length (now (out .entry)))) ⌝ }
-    ensures { λ _. ⌜ now (out .exit) ≡ writeOutput sha256 (jobOf job (now (label .entry)) (now (rankings .entry)) (now (draws .entry))) (now (out .entry)) ⌝ }
+pub fn write(
+    job: Job,
+    label: &[u8],
+    rankings: &[u8],
+    kinds: &[u8],
+    draws: &[u32],
+    out: &mut [u8],
+) -> Written
+    ensures { λ r. ⌜ outcomeOf r ≡ writeOutcome sha256 (jobOf job (now (label .entry)) (now (rankings .entry)) (now (kinds .entry)) (now (draws .entry))) (length (now (out .entry))) ⌝ }
+    ensures { λ r. ⌜ r .order ≡ orderWritten (writeOutcome sha256 (jobOf job (now (label .entry)) (now (rankings .entry)) (now (kinds .entry)) (now (draws .entry))) (length (now (out .entry)))) ⌝ }
+    ensures { λ _. ⌜ now (out .exit) ≡ writeOutput sha256 (jobOf job (now (label .entry)) (now (rankings .entry)) (now (kinds .entry)) (now (draws .entry))) (now (out .entry)) ⌝ }
 {
-    let tested = validity::up_to_rankings(job, label, rankings);
+    let tested = validity::up_to_kinds(job, label, rankings, kinds);
     let g = match tested {
         Tested::Sound(g) => g,
         Tested::Refused(refusal, ranking) => return refused(refusal, ranking),
     };
-    let ended = plain::rounds::count(rankings, job.n, job.k);
+    let ended = plain::rounds::count(rankings, kinds, job.n, job.k);
     let count = ended.count;
-    let m = plain::rounds::measure_of(job.n, job.k, count.gone.outs + 1);
+    let m = plain::rounds::measure_of(kinds, job.n, job.k, count.gone.outs + 1);
     if !validity::draws_good(draws, m.needed, job.q) {
         return refused(Refusal::Draws, 0);
     }
@@ -94,7 +107,12 @@ pub fn write(job: Job, label: &[u8], rankings: &[u8], draws: &[u32], out: &mut [
         counter: job.counter,
         setup,
     };
-    if !put_board(out, label, head, rankings, draws, count, m.length) {
+    let b = Board {
+        head,
+        count,
+        length: m.length,
+    };
+    if !put_board(out, label, rankings, kinds, draws, b) {
         return refused(Refusal::Output, 0);
     }
     board_written(ended, m.length)

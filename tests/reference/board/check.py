@@ -1,12 +1,13 @@
 """check.py - the checker: a board read record by record.  Words in quotation marks are 01's, on the
-header's mark 02's."""
+header's mark and on a ballot's kind 02's."""
 from .count import after_out, closes, first_standing, lowest_due, winner_due
 from .group import (Group, g0_holds, g1_holds, group_holds, make_g1, pair_of, product_of,
                     sizes_hold)
 from .proofs import (Context, column_place, entry_claim, entry_place, line_claim, proof_holds,
                      row_place, shift_claim)
 from .reading import Reading, Refused
-from .sizes import HF_LENGTH, ba_length, rows_of_round, rt_length, sh_length
+from .sizes import (AUDITED, BA_FRAME, COUNTED, HF_LENGTH, ba_length, rows_of_round, rt_length,
+                    sh_length)
 
 
 def read_header(reading):
@@ -36,11 +37,19 @@ def read_header(reading):
 
 
 def open_ballot(reading, n, k):
-    """The frame of a ballot: what stands ahead of its pairs."""
-    reading.open(b'BA', ba_length(n))
+    """The frame of a ballot: what stands ahead of its pairs.  Returns the kind."""
+    # "The length test reads up to the kind byte first"
+    if reading.left() < BA_FRAME:
+        reading.refuse(1)
+    reading.open(b'BA', ba_length(n, reading.board[reading.next + 4]))
     # "BA, SH, RT: number or round not the one due | 6"
     if reading.number(2) != k:
         reading.refuse(6)
+    # "with 17 another kind (after 6, ...)"
+    kind = reading.number(1)
+    if kind not in (COUNTED, AUDITED):
+        reading.refuse(17)
+    return kind
 
 
 def read_matrix(reading, group, rows, n):
@@ -71,14 +80,34 @@ def read_proof(reading, group, branches, statements):
     return proof
 
 
+def read_shown(reading, group, n):
+    """"n^2 exponents x (4 bytes each) and the ranking (n bytes)"; "x >= q stays 7" """
+    xs = [[reading.exponent(group) for _ in range(n)] for _ in range(n)]
+    return xs, list(reading.take(n))
+
+
+def opens(group, n, matrix, shown):
+    """"every pair must open so": row i with v = 1 in the column of the process ranked i-th."""
+    xs, ranking = shown
+    if any(process not in ranking for process in range(1, n + 1)):
+        return False
+    for i in range(n):
+        for j in range(n):
+            if matrix[i][j] != pair_of(group, xs[i][j], 1 if ranking[i] == j + 1 else 0):
+                return False
+    return True
+
+
 def read_ballot(reading, group, n, k):
-    """"BA | number 2; n^2 pairs (b 4, Y 4) by rows; n^2 entry, n row, n column proofs" """
-    open_ballot(reading, n, k)
+    """"BA | number 2; n^2 pairs (b 4, Y 4) by rows; n^2 entry, n row, n column proofs"; "BA gains a
+    kind byte after its number".  Returns the kind and the matrix."""
+    kind = open_ballot(reading, n, k)
     # "same, fields left to right: ... | 7": the whole record is walked before any proof
     matrix = read_matrix(reading, group, n, n)
     entry_proofs = [[read_proof(reading, group, 2, 1) for _ in range(n)] for _ in range(n)]
     row_proofs = [read_proof(reading, group, 1, 1) for _ in range(n)]
     column_proofs = [read_proof(reading, group, 1, 1) for _ in range(n)]
+    shown = read_shown(reading, group, n) if kind == AUDITED else None
     # "BA, SH: a proof fails | 8"
     def test(place, claim, proof):
         if not proof_holds(group, Context(b'BA', k, 1, place), claim, proof):
@@ -92,8 +121,11 @@ def read_ballot(reading, group, n, k):
     for j in range(n):
         column = [matrix[i][j] for i in range(n)]
         test(column_place(n, j), line_claim(group, column), column_proofs[j])
+    # "with 18 last n bytes that are no ranking or a pair that does not open so (after 8...)"
+    if kind == AUDITED and not opens(group, n, matrix, shown):
+        reading.refuse(18)
     reading.close()
-    return matrix
+    return kind, matrix
 
 
 def read_shift(reading, group, n, m, k, previous, a):
@@ -112,9 +144,9 @@ def read_shift(reading, group, n, m, k, previous, a):
 
 
 def read_sheet(reading, group, standing, matrices):
-    """"RT | round 1, out 1, then per process count 2, s 4".  Returns (next standing, None)
-    or (standing, winner)."""
-    n, K = standing.n, standing.K
+    """"RT | round 1, out 1, then per process count 2, s 4".  matrices: of the counted ballots.
+    Returns (next standing, None) or (standing, winner)."""
+    n, C = standing.n, standing.C
     reading.open(b'RT', rt_length(n))
     if reading.number(1) != standing.m:
         reading.refuse(6)
@@ -122,14 +154,14 @@ def read_sheet(reading, group, standing, matrices):
     counts, sums = [], []
     for _ in range(n):
         count = reading.number(2)
-        # "RT, in that same walk: count > K | 9"
-        if count > K:
+        # "RT, in that same walk: count > K | 9"; "the count limit of 9 [is] over counted ballots"
+        if count > C:
             reading.refuse(9)
         counts.append(count)
         sums.append(reading.exponent(group))
     # "RT: a tally equation fails | 10"
     # "For column i of round m, over all K ballots' first rows: product of b = g0^s * g1^count,
-    #  product of Y = g1^s."
+    #  product of Y = g1^s."; an audited ballot "enters no product"
     for i in range(n):
         if product_of(group, [M[0][i] for M in matrices]) != pair_of(group, sums[i], counts[i]):
             reading.refuse(10)
@@ -155,14 +187,22 @@ def check(board):
 def check_or_raise(board):
     reading = Reading(board)
     n, K, group = read_header(reading)
-    standing = first_standing(n, K)
-    matrices = [read_ballot(reading, group, n, k) for k in range(1, K + 1)]
-    standing, winner = read_sheet(reading, group, standing, matrices)
+    matrices = {}                       # of the counted ballots, by number
+    for k in range(1, K + 1):
+        kind, matrix = read_ballot(reading, group, n, k)
+        if kind == COUNTED:
+            matrices[k] = matrix
+    # "with 19 a board with nothing counted (after the last BA, and naming it...)"
+    if not matrices:
+        raise Refused(19, K)
+    standing = first_standing(n, len(matrices))
+    standing, winner = read_sheet(reading, group, standing, list(matrices.values()))
     while winner is None:
         a = standing.outs[-1]
-        matrices = [read_shift(reading, group, n, standing.m, k, matrices[k - 1], a)
-                    for k in range(1, K + 1)]
-        standing, winner = read_sheet(reading, group, standing, matrices)
+        # an audited ballot "has no SH (the others keep their numbers)"
+        for k in matrices:
+            matrices[k] = read_shift(reading, group, n, standing.m, k, matrices[k], a)
+        standing, winner = read_sheet(reading, group, standing, list(matrices.values()))
     # "after the closing sheet: bytes remain | 12"; "(with 12, the number of records read)"
     if reading.left() > 0:
         reading.refuse(12)

@@ -1,22 +1,23 @@
 """count.py - the count on a board, sheet by sheet.  Words in quotation marks are 01's, on equal
-counts 02's."""
+counts and on what is counted 02's."""
 from collections import namedtuple
 
 # "Each sheet takes the standing count and hands back the next."
 
-Standing = namedtuple('Standing', 'n K m still_in outs sheets')
-# m: round of the sheet to come; still_in, outs: tuples of process numbers; sheets: the counts of
-# rounds 1 to m-1
+Standing = namedtuple('Standing', 'n C m still_in outs sheets')
+# C: how many ballots are counted; m: round of the sheet to come; still_in, outs: tuples of process
+# numbers; sheets: the counts of rounds 1 to m-1
 
 
-def first_standing(n, K):
-    return Standing(n, K, 1, tuple(range(1, n + 1)), (), ())
+def first_standing(n, C):
+    return Standing(n, C, 1, tuple(range(1, n + 1)), (), ())
 
 
 def closes(standing, counts):
-    """"A round closes the board if a process still in has 2 * count > K, or if m = n-1." """
+    """"A round closes the board if a process still in has 2 * count > K, or if m = n-1.";
+    "counts, their sum on each sheet, majority and the count limit of 9 are over counted ballots" """
     for i in standing.still_in:
-        if 2 * counts[i - 1] > standing.K:
+        if 2 * counts[i - 1] > standing.C:
             return True
     return standing.m == standing.n - 1
 

@@ -21,15 +21,15 @@ def digests_hold(digests):
 
 
 def receipts(board):
-    """The digest of each BA record, in order.  "Refusals 1 to 6 hold up to the last BA; proofs are
-    left to the checker." """
+    """The digest of each BA record, all its bytes, in order.  "Refusals 1 to 6 hold up to the last
+    BA; proofs are left to the checker."; "17 another kind (after 6, in L1's walk too...)" """
     reading = Reading(board)
     n, K, _ = read_header(reading)
     held = []
     for k in range(1, K + 1):
         start = reading.next
-        open_ballot(reading, n, k)
-        reading.next = start + ba_length(n)
+        kind = open_ballot(reading, n, k)
+        reading.next = start + ba_length(n, kind)
         held.append(hashlib.sha256(board[start:reading.next]).digest())
         reading.close()
     return held

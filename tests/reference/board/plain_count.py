@@ -14,7 +14,8 @@ def left_of(processes, all_counts, edge):
 def plain_count(n, rankings):
     """"The plain count": fed n and a list of rankings, reads no board.  Written on its own,
     without the functions that the checker uses.  "The plain count that accepted boards are held
-    to uses this rule too." """
+    to uses this rule too."; of a board with audited ballots, "The plain result now concerns counted
+    rankings" """
     m = 1
     still_in = set(range(1, n + 1))
     gone = []

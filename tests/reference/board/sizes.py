@@ -1,11 +1,18 @@
-"""sizes.py - lengths of records and boards, and draws that they need."""
+"""sizes.py - lengths of records and boards, and draws that they need.  Words in quotation marks are
+01's, on a ballot's kind 02's."""
 
 BOARDCHECK_LIMIT = 65536        # "boardcheck, serves boards up to 65,536 bytes"
 HF_LENGTH = 54                  # "n 1, K 2, p 4, q 4, g0 4, counter 1, g1 4, label 32 | 54"
 
 
-def ba_length(n):
-    return 4 + 40 * n * n + 32 * n                        # "4 + 40n^2 + 32n"
+BA_FRAME = 5                    # mark 2, number 2, kind 1
+COUNTED, AUDITED = 0, 1         # "a kind byte after its number: 0 counted, 1 audited"
+
+
+def ba_length(n, kind):
+    """"a record of another kind has the length of a counted one"; "An audited record ends with n^2
+    exponents x (4 bytes each) and the ranking (n bytes)" """
+    return BA_FRAME + 40 * n * n + 32 * n + (4 * n * n + n if kind == AUDITED else 0)
 
 
 def sh_length(n, R):
@@ -20,12 +27,17 @@ def rows_of_round(n, m):
     return n - m + 1                                      # "in round m, R = n-m+1 rows"
 
 
-def board_length(n, K, rounds):
+def counted_of(kinds):
+    """How many ballots are counted."""
+    return sum(kind == COUNTED for kind in kinds)
+
+
+def board_length(n, kinds, rounds):
     """"A board is HD, K BA numbered 1 to K, RT; each further round is K SH, numbered
-    alike, then RT." """
-    total = HF_LENGTH + K * ba_length(n) + rt_length(n)
+    alike, then RT."  Of an audited ballot: "It has no SH" """
+    total = HF_LENGTH + sum(ba_length(n, kind) for kind in kinds) + rt_length(n)
     for m in range(2, rounds + 1):
-        total += K * sh_length(n, rows_of_round(n, m)) + rt_length(n)
+        total += counted_of(kinds) * sh_length(n, rows_of_round(n, m)) + rt_length(n)
     return total
 
 
@@ -37,8 +49,8 @@ def sh_draws(n, R):
     return R * n + (R + 1) * (2 + R * n) + R              # "SH needs Rn + (R+1)(2 + Rn) + R"
 
 
-def draws_needed(n, K, rounds):
-    total = K * ba_draws(n)
+def draws_needed(n, kinds, rounds):
+    total = len(kinds) * ba_draws(n)
     for m in range(2, rounds + 1):
-        total += K * sh_draws(n, rows_of_round(n, m))
+        total += counted_of(kinds) * sh_draws(n, rows_of_round(n, m))
     return total

@@ -1,10 +1,11 @@
-"""write.py - the writer: proofs, records and whole boards made from rankings and draws."""
+"""write.py - the writer: proofs, records and whole boards made from rankings, kinds and draws.  Words
+in quotation marks are 01's, on kinds 02's."""
 from .group import (Group, g0_holds, g1_holds, group_holds, make_g1, over, pair_of, power,
                     sizes_hold)
 from .plain_count import plain_count
 from .proofs import (Context, be, challenge, column_place, entry_claim, entry_place, line_claim,
                      message, row_place, shift_claim)
-from .sizes import board_length, draws_needed
+from .sizes import AUDITED, COUNTED, board_length, draws_needed
 
 
 class Draws:
@@ -87,9 +88,14 @@ def draw_matrix(group, n, processes, draws):
     return xs, matrix
 
 
-def write_ballot(group, n, k, ranking, draws):
+def shown_bytes(xs, ranking):
+    """"An audited record ends with n^2 exponents x (4 bytes each) and the ranking (n bytes)" """
+    return b''.join(be(x, 4) for row in xs for x in row) + bytes(ranking)
+
+
+def write_ballot(group, n, k, kind, ranking, draws):
     xs, matrix = draw_matrix(group, n, ranking, draws)
-    parts = [b'BA', be(k, 2), matrix_bytes(matrix)]
+    parts = [b'BA', be(k, 2), be(kind, 1), matrix_bytes(matrix)]
 
     def prove(place, claim, true_branch, witness):
         proof = make_proof(group, Context(b'BA', k, 1, place), claim, true_branch, [witness], draws)
@@ -105,6 +111,8 @@ def write_ballot(group, n, k, ranking, draws):
         column = [matrix[i][j] for i in range(n)]
         prove(column_place(n, j), line_claim(group, column), 0,
               sum(xs[i][j] for i in range(n)) % group.q)
+    if kind == AUDITED:
+        parts.append(shown_bytes(xs, ranking))
     return b''.join(parts), xs, matrix
 
 
@@ -148,58 +156,77 @@ def header_refusal(n, K, p, q, g0, counter, label):
     return None
 
 
-def write_records(group, n, counter, lists, count, source):
-    """The records of a board.  lists: the K rankings; count: plain_count's answer on them."""
+def write_records(group, n, counter, lists, kinds, count, source):
+    """The records of a board.  lists: the K rankings; count: plain_count's answer on the counted
+    ones."""
     K = len(lists)
-    lists = lists[:]
     rounds, all_counts, outs, _ = count
     parts = [header_bytes(n, K, group.p, group.q, group.g0, counter, group.g1, group.label)]
-    all_xs, all_matrices = [], []
+    last = {}                           # list, xs and matrix of the counted ballots, by number
     for k in range(1, K + 1):
-        record, xs, matrix = write_ballot(group, n, k, lists[k - 1], source)
+        record, xs, matrix = write_ballot(group, n, k, kinds[k - 1], lists[k - 1], source)
         parts.append(record)
-        all_xs.append(xs)
-        all_matrices.append(matrix)
+        if kinds[k - 1] == COUNTED:
+            last[k] = (lists[k - 1], xs, matrix)
     for m in range(1, rounds + 1):
         if m > 1:
             a = outs[m - 2]
-            for k in range(K):
-                record, lists[k], all_xs[k], all_matrices[k] = write_shift(
-                    group, n, m, k + 1, a, lists[k], all_xs[k], all_matrices[k], source)
+            for k in last:
+                record, *last[k] = write_shift(group, n, m, k, a, *last[k], source)
                 parts.append(record)
         out = outs[m - 1] if m < rounds else 0
-        parts.append(sheet_bytes(m, out, all_counts[m - 1], first_row_sums(group, n, all_xs)))
+        sums = first_row_sums(group, n, [xs for _, xs, _ in last.values()])
+        parts.append(sheet_bytes(m, out, all_counts[m - 1], sums))
     return parts
 
 
-def write(n, K, p, q, g0, counter, label, rankings, draws, out_len):
-    """rankings: flat list of bytes; draws: list of 32-bit numbers; out_len: length of the lent
-    output.  counter is one byte ("a counter of any value": 0 to 255)."""
-    number = header_refusal(n, K, p, q, g0, counter, label)
-    if number is not None:
-        return ('refused', number, 0)
+def ballots_refusal(n, K, rankings, kinds):
+    """The number of the first rule of rankings and kinds that these break and what goes with it, or
+    None."""
     # "rankings (13: list not K x n long, or a ranking lacks a process),"
     # "With 13 goes the first bad ranking from 1, or 0 for a wrong length"
     if len(rankings) != K * n:
-        return ('refused', 13, 0)
+        return 13, 0
+    for k in range(K):
+        if any(process not in rankings[k * n:(k + 1) * n] for process in range(1, n + 1)):
+            return 13, k + 1
+    # "17 another kind (... in the writer after 13, then 19, then 14; also for a kind list not K long)"
+    if len(kinds) != K or any(kind not in (COUNTED, AUDITED) for kind in kinds):
+        return 17, 0
+    # "19 a board with nothing counted (... in the writer with 0)"
+    if COUNTED not in kinds:
+        return 19, 0
+    return None
+
+
+def draws_hold(draws, needed, q):
+    """"draws (14: fewer than needed, or a needed one outside 1 to q-1)" """
+    return len(draws) >= needed and all(1 <= d <= q - 1 for d in draws[:needed])
+
+
+def write(n, K, p, q, g0, counter, label, rankings, kinds, draws, out_len):
+    """rankings: flat list of bytes; kinds: list of bytes, one a ballot; draws: list of 32-bit
+    numbers; out_len: length of the lent output.  counter is one byte ("a counter of any value": 0 to
+    255)."""
+    number = header_refusal(n, K, p, q, g0, counter, label)
+    if number is not None:
+        return ('refused', number, 0)
+    refusal = ballots_refusal(n, K, rankings, kinds)
+    if refusal is not None:
+        return ('refused', *refusal)
     lists = [list(rankings[k * n:(k + 1) * n]) for k in range(K)]
-    for k, ranking in enumerate(lists, start=1):
-        if any(process not in ranking for process in range(1, n + 1)):
-            return ('refused', 13, k)
-    count = plain_count(n, lists)
+    # "The plain result now concerns counted rankings"
+    count = plain_count(n, [ranking for ranking, kind in zip(lists, kinds) if kind == COUNTED])
     rounds, _, outs, winner = count
-    # "draws (14: fewer than needed, or a needed one outside 1 to q-1),"
-    needed = draws_needed(n, K, rounds)
-    if len(draws) < needed:
-        return ('refused', 14, 0)
-    if any(not 1 <= d <= q - 1 for d in draws[:needed]):
+    needed = draws_needed(n, kinds, rounds)
+    if not draws_hold(draws, needed, q):
         return ('refused', 14, 0)
     # "output (15: shorter than the board)."
-    if out_len < board_length(n, K, rounds):
+    if out_len < board_length(n, kinds, rounds):
         return ('refused', 15, 0)
     group = Group(p, q, g0, make_g1(p, q, g0, counter, label), bytes(label))
     source = Draws(draws)
-    board = b''.join(write_records(group, n, counter, lists, count, source))
+    board = b''.join(write_records(group, n, counter, lists, kinds, count, source))
     assert source.used == needed
-    assert len(board) == board_length(n, K, rounds)
+    assert len(board) == board_length(n, kinds, rounds)
     return ('written', board, rounds, outs, winner)

@@ -8,22 +8,25 @@ BIG = 2 ** 32 - 1
 
 
 class Base:
-    """A written board with its parts."""
+    """A written board with its parts.  audited: the numbers of the audited ballots."""
 
-    def __init__(self, rng, name, n, lists, group):
+    def __init__(self, rng, name, n, lists, group, audited=()):
         self.name, self.n, self.K, self.lists = name, n, len(lists), lists
+        self.kinds = gen.audited_at(self.K, *audited)
+        self.C = ref.counted_of(self.kinds)
         self.p, self.q, self.g0 = group
         self.label, self.counter = gen.label_counter(rng, *group)
-        self.rounds, self.counts, self.outs, self.winner = ref.plain_count(n, lists)
-        draws = gen.make_draws(rng, self.q, ref.draws_needed(n, self.K, self.rounds))
+        self.rounds, self.counts, self.outs, self.winner = ref.plain_count(
+            n, gen.counted(lists, self.kinds))
+        draws = gen.make_draws(rng, self.q, ref.draws_needed(n, self.kinds, self.rounds))
         flat = [x for r in lists for x in r]
         answer = ref.write(n, self.K, self.p, self.q, self.g0, self.counter, self.label, flat,
-                           draws, 10 ** 9)
+                           self.kinds, draws, 10 ** 9)
         self.draws = draws
         assert answer[0] == 'written'
         self.board = answer[1]
         self.accepted = ('accepted', self.rounds, self.outs, self.winner)
-        self.fields = layout(n, self.K, self.rounds)
+        self.fields = layout(n, self.kinds, self.rounds)
         self.starts = [f.start for f in self.fields if f.kind == 'mark'] + [len(self.board)]
         self.tiny = self.q < 1000
 
@@ -34,6 +37,10 @@ class Base:
     def put(self, field, value):
         _, _, _, place, width, _ = field
         return self.board[:place] + be(value, width) + self.board[place + width:]
+
+    def sheet(self, m):
+        """The number of the sheet of round m: round 1 has K + 1 records, a later one C + 1."""
+        return self.K + 1 + (m - 1) * (self.C + 1)
 
     def record(self, i):
         return self.board[self.starts[i]:self.starts[i + 1]]

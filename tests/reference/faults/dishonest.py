@@ -3,10 +3,12 @@ import boardref as ref
 from gen import HOUSE
 
 from . import ballots, elements, sheets, shifts
+from .audits import audits
 from .election import LISTS3, P23, PAIRS4, Crafts, election, join
 from .forged import forged
 from .messages import boards_of_01, other_messages
 from .moved import moved
+from .openings import openings
 from .ties import ties
 
 
@@ -34,6 +36,8 @@ def dishonest(out, rng):
     other_messages(out, new)
     boards_of_01(out, new)
     moved(out, new)
+    audits(out, rng, new)
+    openings(out, new)
 
 
 def honest(out, new):

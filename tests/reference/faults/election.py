@@ -24,20 +24,22 @@ class Crafts:
         return Craft(n, K, *group, counter, label, self.seed)
 
 
-def election(c, lists, alter=None, sheet=None, shift=None, ballot=None):
+def election(c, lists, alter=None, sheet=None, shift=None, ballot=None, audited=()):
     """Builds a whole board through Craft c, following the counts that its matrices give.
     alter(m, k, V) -> new matrix for round m >= 2;  ballot(k, V) -> (V, faults);
     shift(m, k, a) -> dict of arguments for Craft.shift;
-    sheet(m, counts, due) -> out field to write (due: the right one) or None to stop there.
+    sheet(m, counts, due) -> out field to write (due: the right one) or None to stop there;
+    audited: the numbers of the audited ballots.
     Returns records, and the (rounds, outs, winner) that the sheets' counts lead to."""
-    n, K = c.n, c.K
+    n = c.n
     records = [c.header()]
-    for k in range(1, K + 1):
+    for k in range(1, c.K + 1):
         V = permutation_matrix(n, lists[k - 1])
         faults = None
         if ballot:
             V, faults = ballot(k, V)
-        records.append(c.ballot(k, V, faults))
+        records.append(c.ballot(k, V, faults, ranking=lists[k - 1] if k in audited else None))
+    C = len(c.counted())
     still, outs, sheets, m = list(range(1, n + 1)), [], [], 1
     while True:
         counts, _ = c.tallies()
@@ -45,7 +47,7 @@ def election(c, lists, alter=None, sheet=None, shift=None, ballot=None):
         by_process = dict(enumerate(zip(*sheets), 1))        # its counts, the latest first
         top = max(by_process[i] for i in still)
         low = min(by_process[i] for i in still)
-        closing = 2 * top[0] > K or m == n - 1
+        closing = 2 * top[0] > C or m == n - 1
         due = 0 if closing else max(i for i in still if by_process[i] == low)
         shown = due if sheet is None else sheet(m, counts, due)
         records.append(c.sheet(m, shown, counts=[min(x, 65535) for x in counts]))
@@ -54,7 +56,7 @@ def election(c, lists, alter=None, sheet=None, shift=None, ballot=None):
         outs.append(shown)
         still.remove(shown)
         m += 1
-        records += [shifted(c, m, k, shown, alter, shift) for k in range(1, K + 1)]
+        records += [shifted(c, m, k, shown, alter, shift) for k in c.counted()]
 
 
 def shifted(c, m, k, out, alter, shift):

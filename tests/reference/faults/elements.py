@@ -6,7 +6,7 @@ from gen import HOUSE
 
 from .election import LISTS3, P23, election, join
 
-FIELDS = layout(2, 2, 1)                              # of n = 2, K = 2
+FIELDS = layout(2, bytes(2), 1)                       # of n = 2, K = 2
 LISTS2 = [[1, 2], [2, 1]]
 
 

@@ -11,14 +11,14 @@ def spread(items, most=3):
 
 def field_faults(out, rng, base, every_record=False, light=False):
     """light: only the last field of each kind in a record, fewer values."""
-    K = base.K
     by_record = {}
     for f in base.fields:
         by_record.setdefault(f.record, []).append(f)
     chosen = []
-    groups = {}                                       # records by mark and round
+    groups = {}                                       # records by mark, length and round
     for r, fields in by_record.items():
-        groups.setdefault((fields[0].mark, (r - 1) // (K + 1)), []).append(r)
+        m = sum(base.sheet(m) < r for m in range(1, base.rounds))
+        groups.setdefault((fields[0].mark, len(fields), m), []).append(r)
     for records in groups.values():
         chosen += records if every_record else sorted({records[0], records[-1]})
     for r in sorted(chosen):
@@ -65,6 +65,24 @@ def numbers(rng, base, f, light):
         yield value, 6, True
 
 
+def kinds(rng, base, f, light):
+    for value in (2, 3, 128, 255):
+        yield value, 17, True
+
+
+def shown_exponents(rng, base, f, light):
+    q, old = base.q, base.value(f)
+    for value in (q, old + q, BIG, 2 ** 31):
+        yield value, 7, True
+    for value in ((old + 1) % q, (old - 1) % q, (q - old) % q, 0):
+        yield value, 18, True
+
+
+def ranked(rng, base, f, light):
+    for value in list(range(base.n + 2)) + [255]:
+        yield value, 18, True
+
+
 def elements(rng, base, f, light):
     p, q, old = base.p, base.q, base.value(f)
     for value in (0, p - old) if light else (0, p, old + p, p - old, BIG, 2 ** 31, p - 1):
@@ -100,12 +118,12 @@ def sums(rng, base, f, light):
 
 
 def counts(rng, base, f, light):
-    K, old = base.K, base.value(f)
-    for value in (K + 1, 65535, old + base.q, 256 * old + K + 1):
-        if value > K:
+    C, old = base.C, base.value(f)
+    for value in (C + 1, base.K, base.K + 1, 65535, old + base.q, 256 * old + C + 1):
+        if value > C:
             yield value, 9, True
-    for value in range(0, K + 1) if K <= 5 else (old + 1, old - 1, 0, K):
-        if 0 <= value <= K:
+    for value in range(0, C + 1) if C <= 5 else (old + 1, old - 1, 0, C):
+        if 0 <= value <= C:
             yield value, 10, True
 
 
@@ -114,6 +132,7 @@ def outs(rng, base, f, light):
         yield value, 11, True
 
 
-VALUES = {'mark': marks, 'number': numbers, 'round': numbers, 'b': elements, 'Y': elements,
+VALUES = {'mark': marks, 'number': numbers, 'round': numbers, 'kind': kinds, 'x': shown_exponents,
+          'ranked': ranked, 'b': elements, 'Y': elements,
           't1': elements, 't2': elements, 'e': exponents, 'r': exponents, 's': sums,
           'count': counts, 'out': outs}

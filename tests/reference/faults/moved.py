@@ -12,8 +12,10 @@ def span(n, place):
     """Where the proof at a place of a ballot's record starts and ends."""
     entries = n * n
     if place < entries:
-        return 4 + 8 * entries + 32 * place, 4 + 8 * entries + 32 * (place + 1)
-    return 4 + 40 * entries + 16 * (place - entries), 4 + 40 * entries + 16 * (place - entries + 1)
+        start, size = ref.BA_FRAME + 8 * entries + 32 * place, 32
+    else:
+        start, size = ref.BA_FRAME + 40 * entries + 16 * (place - entries), 16
+    return start, start + size
 
 
 def copied(n, source, taken, target, given):

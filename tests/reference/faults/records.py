@@ -28,9 +28,14 @@ def cuts_and_tails(out, rng, base, every_byte=False):
 
 def answer_for(R, records, at):
     """For records that first differ from the right ones, R, at number `at`: 1 if what is left is
-    shorter than the record due, else 2 if the mark differs, else 6 (numbers differ)."""
+    shorter than the record due, where a ballot is due by the byte in the place of its kind, else 2 if
+    the mark differs, else 6 (numbers differ)."""
     rest = b''.join(records[at:])
-    if len(rest) < len(R[at]):
+    if R[at][:2] == b'BA':
+        short = len(rest) < ref.BA_FRAME or len(rest) < ref.ba_length(R[0][2], rest[4])
+    else:
+        short = len(rest) < len(R[at])
+    if short:
         return ('refused', 1, at)
     if rest[:2] != R[at][:2]:
         return ('refused', 2, at)
@@ -96,10 +101,11 @@ def replays(out, rng, base):
         out.add(base.name + '_replay', b''.join(R[:k] + [record] + R[k + 1:]),
                 ('refused', number, at), note, sure=not base.tiny)
 
+    assert base.C == K
     if K > 1:
         add(2, b'BA' + be(2, 2) + R[1][4:], 8, 2, 'ballot 1 again as ballot 2')
         proved = base.craft(97).ballot(2, V, X=base.xs(1))
-        assert proved[4:4 + 8 * base.n ** 2] == R[1][4:4 + 8 * base.n ** 2]
+        assert proved[4:5 + 8 * base.n ** 2] == R[1][4:5 + 8 * base.n ** 2]
         add(2, proved, 10, K + 1, 'ballot 1 again as ballot 2, proved as such')
     add(1, base.craft(99).ballot(1, V), 10, K + 1, 'ballot 1 made anew')
     other = base.craft(98)

@@ -10,12 +10,13 @@ from elections import WORKED
 from .counts import second_count
 
 
-def sheets_of(board, n, K, rounds):
+def sheets_of(board, n, kinds, rounds):
     """Rounds, outs and counts read straight off the sheets by their known places."""
-    outs, counts, place = [], [], ref.HF_LENGTH + K * ref.ba_length(n)
+    outs, counts = [], []
+    place = 54 + len(kinds) * (5 + 40 * n ** 2 + 32 * n) + sum(kinds) * (4 * n ** 2 + n)
     for m in range(1, rounds + 1):
         if m > 1:
-            place += K * ref.sh_length(n, n - m + 1)
+            place += (len(kinds) - sum(kinds)) * ref.sh_length(n, n - m + 1)
         assert board[place:place + 2] == b'RT' and board[place + 2] == m
         outs.append(board[place + 3])
         counts.append([int.from_bytes(board[place + 4 + 6 * i:place + 6 + 6 * i], 'big')
@@ -43,15 +44,17 @@ def random_job(rng, i):
     p, q, g0 = small_group(rng, max(n, K) + 1)
     label, counter = gen.label_counter(rng, p, q, g0)
     lists = gen.rankings_of(rng, n, K, rng.choice(gen.STYLES))
-    plain = ref.plain_count(n, lists)
-    assert plain == second_count(n, lists)
+    kinds = gen.kinds_of(rng, K, rng.choice(gen.KIND_STYLES))
+    counted = [lists[k] for k in range(K) if kinds[k] == 0]
+    plain = ref.plain_count(n, counted)
+    assert plain == second_count(n, counted)
     rounds, counts = plain[:2]
-    assert all(sum(c) == K for c in counts)
-    draws = gen.make_draws(rng, q, ref.draws_needed(n, K, rounds),
+    assert all(sum(c) == len(counted) for c in counts)
+    draws = gen.make_draws(rng, q, ref.draws_needed(n, kinds, rounds),
                            rng.choice(('random', 'random', 'ones', 'tops', 'edges')))
     flat = [x for r in lists for x in r]
-    return gen.Job(n, K, p, q, g0, counter, label, flat, draws,
-                   ref.board_length(n, K, rounds)), plain
+    return gen.Job(n, K, p, q, g0, counter, label, flat, kinds, draws,
+                   ref.board_length(n, kinds, rounds)), plain
 
 
 def written_as_counted(job, plain):
@@ -60,8 +63,27 @@ def written_as_counted(job, plain):
     answer = ref.write(*job)
     assert answer[0] == 'written' and answer[2:] == (rounds, outs, winner)
     assert ref.check(answer[1]) == ('accepted', rounds, outs, winner)
-    assert sheets_of(answer[1], job.n, job.K, rounds) == (outs + [0], counts)
+    assert sheets_of(answer[1], job.n, job.kinds, rounds) == (outs + [0], counts)
     return answer
+
+
+def audited_as_given(job, board):
+    """How many ballots are audited, once each shows its draws and its ranking, and once the numbers
+    of the shifts of round 2 are those of the others."""
+    n, at = job.n, 54
+    for k, kind in enumerate(job.kinds):
+        assert board[at:at + 5] == b'BA' + (k + 1).to_bytes(2, 'big') + bytes([kind])
+        at += 5 + 40 * n ** 2 + 32 * n
+        if kind:
+            xs = job.draws[k * (4 * n ** 2 + 2 * n):][:n ** 2]
+            shown = b''.join(x.to_bytes(4, 'big') for x in xs) + bytes(job.rankings[k * n:(k + 1) * n])
+            assert board[at:at + 4 * n ** 2 + n] == shown
+            at += len(shown)
+    at += 4 + 6 * n
+    for k in [k for k, kind in enumerate(job.kinds) if not kind and at < len(board)]:
+        assert board[at:at + 4] == b'SH' + (k + 1).to_bytes(2, 'big')
+        at += ref.sh_length(n, n - 1)
+    return sum(job.kinds)
 
 
 def worked_jobs():
@@ -71,9 +93,10 @@ def worked_jobs():
         if rankings:
             group = small_group(rng, max(n, K) + 1)
             label, counter = gen.label_counter(rng, *group)
-            draws = gen.make_draws(rng, group[1], ref.draws_needed(n, K, len(counts)))
-            job = gen.Job(n, K, *group, counter, label, [x for r in rankings for x in r], draws,
-                          ref.board_length(n, K, len(counts)))
+            kinds = bytes(K)
+            draws = gen.make_draws(rng, group[1], ref.draws_needed(n, kinds, len(counts)))
+            job = gen.Job(n, K, *group, counter, label, [x for r in rankings for x in r], kinds, draws,
+                          ref.board_length(n, kinds, len(counts)))
             written_as_counted(job, (len(counts), counts, outs, winner))
 
 
@@ -92,8 +115,14 @@ def job_varied(rng, job, answer):
     place = rng.randrange(len(flat))
     worse = flat[:place] + [rng.choice((0, job.n + 1))] + flat[place + 1:]
     assert written(rankings=worse) == ('refused', 13, place // job.n + 1)
-    assert ref.check(board[:-1]) == ('refused', 1, rounds * (job.K + 1))
-    assert ref.check(board + b'\0') == ('refused', 12, rounds * (job.K + 1) + 1)
+    place, kinds = rng.randrange(job.K), job.kinds
+    worse = kinds[:place] + bytes([rng.randrange(2, 256)]) + kinds[place + 1:]
+    for bad in (worse, kinds[1:], kinds + b'\0'):
+        assert written(kinds=bad) == ('refused', 17, 0)
+    assert written(kinds=b'\1' * job.K) == ('refused', 19, 0)
+    last = 1 + job.K + (rounds - 1) * (1 + job.K - sum(kinds))
+    assert ref.check(board[:-1]) == ('refused', 1, last)
+    assert ref.check(board + b'\0') == ('refused', 12, last + 1)
 
 
 def answer_after_flip(rng, board):
@@ -106,10 +135,11 @@ def answer_after_flip(rng, board):
 
 def random_jobs(count, seed):
     rng = random.Random(seed)
-    rounds_seen, refusals = {}, {}
+    rounds_seen, refusals, audited = {}, {}, 0
     for i in range(count):
         job, plain = random_job(rng, i)
         answer = written_as_counted(job, plain)
+        audited += audited_as_given(job, answer[1])
         seen = (job.n, plain[0])
         rounds_seen[seen] = rounds_seen.get(seen, 0) + 1
         if i % 10 == 0:
@@ -118,7 +148,8 @@ def random_jobs(count, seed):
         # are hashed, all else is bound by an equation) except by luck in a tiny group
         key = answer_after_flip(rng, answer[1])
         refusals[key] = refusals.get(key, 0) + 1
-    return rounds_seen, refusals
+    assert audited > count
+    return rounds_seen, refusals, audited
 
 
 def craft_and_write_agree():

@@ -58,9 +58,14 @@ class Board:
     def word(self, at):
         return int.from_bytes(self.board[at:at + 4], 'big')
 
+    def frame(self, record):
+        """The bytes ahead of a record's pairs: a ballot has a kind."""
+        return 5 if self.board[record:record + 2] == b'BA' else 4
+
     def pairs(self, record, rows):
         """b and Y in turn, by rows."""
-        return [self.word(record + 4 + 4 * i) for i in range(2 * rows * self.n)]
+        start = record + self.frame(record)
+        return [self.word(start + 4 * i) for i in range(2 * rows * self.n)]
 
     def over(self, x, y):
         return x * pow(y, self.p - 2, self.p) % self.p
@@ -87,7 +92,7 @@ class Board:
     def ballot(self, record):
         """Where the ballot ends, once each of its proofs was tried."""
         n, pairs = self.n, self.pairs(record, self.n)
-        at = record + 4 + 8 * n * n
+        at = record + self.frame(record) + 8 * n * n
         for place in range(n * n + 2 * n):
             if place < n * n:
                 b, y = pairs[2 * place:2 * place + 2]
@@ -100,7 +105,7 @@ class Board:
                              self.product(pairs[2 * c + 1] for c in cells)]]
             fine, at = self.adds_up(record, 1, place, at, branches)
             assert fine, (record, place)
-        return at
+        return at + (4 * n * n + n if self.board[record + 4] == 1 else 0)
 
     def shift(self, record, before, m, a):
         """The same of the shift of a ballot whose record of the round before starts at `before`."""
@@ -124,10 +129,11 @@ def second_way(data):
     at, before = 54, []
     for m in range(1, board.n):
         starts = []
-        for k in range(board.K):
+        for k in range(board.K if m == 1 else len(before)):
             starts.append(at)
             at = board.ballot(at) if m == 1 else board.shift(at, before[k], m, out)
-        before, out = starts, data[at + 3]
+        before = starts if m > 1 else [start for start in starts if data[start + 4] == 0]
+        out = data[at + 3]
         at += 4 + 6 * board.n
         if out == 0:
             break
@@ -141,8 +147,8 @@ def random_messages(count, seed):
     for i in range(count):
         job, (rounds, *_) = random_job(rng, i)
         second_way(ref.write(*job)[1])
-        shifts += (rounds - 1) * job.K
-    assert shifts > count
+        shifts += (rounds - 1) * (job.K - sum(job.kinds))
+    assert shifts > count // 2
     return shifts
 
 

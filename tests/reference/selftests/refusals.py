@@ -21,6 +21,7 @@ def checker_refusals(board, fields, q):
 
     hit = {
         1: (ref.check(board[:-1]), 8),
+        17: (put(2, 'kind', 2), 2),
         2: (put(5, 'mark', 0x4241), 5),
         3: (put(0, 'K', 0), 0),
         4: (put(0, 'q', 3), 0),
@@ -40,7 +41,8 @@ def checker_refusals(board, fields, q):
 def writer_refusals(job):
     for number, changes in ((3, {'n': 9}), (4, {'q': 3}), (5, {'g0': 1}),
                             (13, {'rankings': job.rankings[1:]}), (14, {'draws': []}),
-                            (15, {'out_len': 0})):
+                            (15, {'out_len': 0}), (17, {'kinds': bytes(2)}),
+                            (19, {'kinds': b'\1\1\1'})):
         assert ref.write(*job._replace(**changes)) == ('refused', number, 0)
     assert ref.write(*job._replace(rankings=[1, 2, 3, 1, 2, 2, 3, 1, 2])) == ('refused', 13, 2)
 
@@ -49,7 +51,7 @@ def every_refusal():
     """Each number once, simplest case, over the 3 x 3 board."""
     job = gen.cycle_job(random.Random(5), *gen.HOUSE)
     board = ref.write(*job)[1]
-    fields = layout(3, 3, 2)
+    fields = layout(3, bytes(3), 2)
     checker_refusals(board, fields, job.q)
     writer_refusals(job)
     # the layout table agrees with what the reader does: every 4-byte proof field set to 2^32-1

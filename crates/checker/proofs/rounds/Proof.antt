@@ -107,7 +107,7 @@ loop-again c =
     let o = opens w in
     let H = headOf (now (a .board)) (a .h) in
     rw (c .next .ensures) (
-      begins-next (now (a .board)) (a .h) (l .place) (l .round) (l .inv .0) (standingOf (a .h .n) (l .count)) _ (sheets-many (a .h .n) (l .count) (l .inv .2) ∙ l .inv .1)
+      begins-next (now (a .board)) (a .h) (l .place) (l .round) (l .inv .0) (standingOf (a .h .n) (l .count)) _ _ (sheets-many (a .h .n) (l .count) (l .inv .2) ∙ l .inv .1)
           (o .1) _ _ (o .2) (o .3) (o .4) _
           (rw (o .5) (one-leaves (a .h .n) (l .count) _ (l .inv .2) (omega (arith, l .inv .1, l .inv .0 .early)))) (o .6),
       o .7 ∙ ap (λ (x : ℕ). x + 1) (l .inv .1),

@@ -10,17 +10,17 @@ use Rattle.gooseoften.proofs.gooseoften_write.Statement.{statement}
 use Rattle.gooseoften.proofs.gooseoften_write.Tie as tie
 
 abbrev jobAt : tie.Start → Job
-jobAt s = let f = s .args in job (f .n) (f .k) (f .p) (f .q) (f .g0) (f .counter) (now (f .label)) (now (f .rankings)) (now (f .draws))
+jobAt s = let f = s .args in job (f .n) (f .k) (f .p) (f .q) (f .g0) (f .counter) (now (f .label)) (now (f .rankings)) (now (f .kinds)) (now (f .draws))
 
 put-reply-requires : tie.Need-put-reply-requires
 put-reply-requires c κs =
-    let s = c .before .before .before .before .before .before .before .before .before .before in
+    let s = c .before .before .before .before .before .before .before .before .before .before .before in
     let w = c .before .before .before .before .write in
     (omega (arith, s .good), which-placed (jobAt s) (length (now (s .args .out))) (w .result .reply) (w .result .order) (w .ensures .0))
 
 returns : tie.Need-returns
 returns c =
-    let s = c .before .before .before .before .before .before .before .before .before .before .before in
+    let s = c .before .before .before .before .before .before .before .before .before .before .before .before in
     let w = c .before .before .before .before .before .write in
     let e = c .put-reply .ensures in
     let r =

@@ -1,63 +1,73 @@
-use Prim.Native.Nat.{_+_, _-_}
-use mathlib.Core.Path.{sym, _∙_}
+use Prim.Native.Nat.{ℕ, _+_, _-_, _≤_}
+use mathlib.Core.Path.{_≡_, sym, ap, _∙_}
 use native.Mathlib.Omega.{arith}
+use lib.ListN.{length}
 use denote.Ref.{now}
 use borrow.Author.Needs.{needs}
-use Rattle.rules.specs.Bytes.{number2}
-use Rattle.rules.specs.Records.{BA, ballotLength}
+use Rattle.rules.specs.Records.{kindAt, ballotLength}
 use Rattle.frames.specs.declared.Fault.the-variants.{Sound}
-use Rattle.frames.specs.Framed.{Framed}
+use Rattle.frames.specs.Framed.{Framed, BallotFramed}
 use Rattle.receipts.proofs.Walking.{WalkedTo, walked-start, walked-refused, walked-more, walked-all}
 use Rattle.receipts.proofs.walk_ballots.Statement.{statement}
 use Rattle.receipts.proofs.walk_ballots.Tie as tie
 
 abbrev Inv-loop : tie.InvT-loop
-Inv-loop board n k digests numbers₀ size at₀ number₀ number-end numbers at number = WalkedTo board digests numbers₀ numbers number at
+Inv-loop board n k digests numbers₀ at₀ number₀ number-end numbers at number = WalkedTo board digests numbers₀ numbers number at
 
 abbrev μ-loop : tie.MeasureT-loop
-μ-loop board n k digests numbers₀ size at₀ number₀ number-end numbers at number = number-end - number
+μ-loop board n k digests numbers₀ at₀ number₀ number-end numbers at number = number-end - number
 
 -- the entry, from the test of the loop
 abbrev start : tie.In-loop Inv-loop μ-loop → tie.Start Inv-loop μ-loop
-start c = c .before .before .before .before .before .before
+start c = c .before .before .before .before .before
 
 loop-holds : tie.Need-loop-holds Inv-loop μ-loop
-loop-holds c = let s = c .before .before .before .before in walked-start _ _ _ (s .pre .0) (s .pre .2)
+loop-holds c = let s = c .before .before .before in walked-start _ _ _ (s .pre .0) (s .pre .2)
 
 returns : tie.Need-returns Inv-loop μ-loop
 returns c =
     let t = c .before .before .before .before in
     walked-refused _ _ _ (start t .pre .0) (t .before .loop .inv) (omega arith) _ (rw (c .before .framed .given .1) at (c .before .before .before .ballot-frame .ensures))
 
--- the frame is sound
+-- the frame is sound, and the length is that of the record's kind
 framed : (c : tie.After-enum-told Inv-loop μ-loop) →
     let t = c .before .before .before in
     let a = start t .args in
     let l = t .before .loop in
-    Framed (now (a .board)) (l .at) (ballotLength (a .n)) BA (number2 (now (a .board)) (l .at + 2)) (l .number) Sound
+    BallotFramed (now (a .board)) (l .at) (a .n) (l .number) Sound
 framed c = rw (c .enum-told .given .1) at (c .before .before .ballot-frame .ensures)
 
+sized : (c : tie.After-ballot-length Inv-loop μ-loop) →
+    let t = c .before .before .before .before .before in
+    let a = start t .args in
+    c .ballot-length .result ≡ ballotLength (a .n) (kindAt (now (a .board)) (t .before .loop .at))
+sized c =
+    let a = start (c .before .before .before .before .before) .args in
+    c .ballot-length .ensures .0 ∙ ap (λ (x : ℕ). ballotLength (a .n) x) (c .before .kind .ensures)
+
 digest-of-requires : tie.Need-digest-of-requires Inv-loop μ-loop
-unfolding Framed
-digest-of-requires c κs = rw (c .before .before .before .before .before .ballot-length .ensures .0) (framed c .0)
+unfolding Framed BallotFramed
+digest-of-requires c κs = omega (arith, sized c, framed (c .before .before) .0 .0)
 
 loop-again : tie.Need-loop-again Inv-loop μ-loop
 loop-again c =
-    let t = c .before .before .before .before .before .before .before .before .before .before in
-    walked-more _ _ _ (start t .pre .0) (t .before .loop .inv) (omega arith) (framed (c .before .before .before .before .before .before .before)) _
-    (t .before .before .ballot-length .ensures .0) _ _ (c .before .before .before .before .before .before .digest-of .ensures) (c .before .before .enter .ensures ∙ rw (c .before .before .before .before .half .ensures))
+    let b = c .before .before .before .before .before .before .before in
+    let t = b .before .before .before .before .before in
+    walked-more _ _ _ (start t .pre .0) (t .before .loop .inv) (omega arith) (framed (b .before .before)) _ (sized b) _ _
+    (c .before .before .before .before .before .before .digest-of .ensures) (c .before .before .enter .ensures ∙ rw (c .before .before .before .before .half .ensures))
 
 returns-2 : tie.Need-returns-2 Inv-loop μ-loop
-returns-2 c = walked-all _ _ _ (c .before .before .before .before .before .before .pre .0) (c .before .loop .inv) (omega arith)
+returns-2 c = walked-all _ _ _ (c .before .before .before .before .before .pre .0) (c .before .loop .inv) (omega arith)
 
 pub walk-ballots-spec : {M : Type 1} → statement M
 walk-ballots-spec =
     tie.close
-    (tie.spec Inv-loop μ-loop (λ c κs. c .before .before .before .pre .0 .small) (λ c. omega (arith, c .before .before .before .before .pre .0 .few)) loop-holds
+    (tie.spec Inv-loop μ-loop (λ c. omega (arith, c .before .before .before .pre .0 .few)) loop-holds
     (λ c κs. (c .before .loop .inv .fits, start c .pre .0 .small)) (λ c. search needs)
-    (λ c. let t = c .before .before .before .before in t .before .loop .inv .long ∙ sym (start t .pre .2)) returns (λ c. search needs) digest-of-requires
-    (λ c. search needs) (λ c κs. let t = c .before .before .before .before .before in omega (arith, start t .pre .0 .few))
-    (λ c κs. let t = c .before .before .before .before .before .before .before in (start t .pre .1, t .before .loop .inv .long))
-    (λ c. let t = c .before .before .before .before .before .before .before .before .before .before in omega (arith, t .before .loop .inv .fits, t .before .before .ballot-length .ensures .1, start t .good))
+    (λ c. let t = c .before .before .before .before in t .before .loop .inv .long ∙ sym (start t .pre .2)) returns (λ c. search needs)
+    (λ c κs. c .before .before .before .before .loop .inv .fits) (λ c κs. start (c .before .before .before .before) .pre .0 .small) digest-of-requires
+    (λ c. search needs) (λ c κs. let t = c .before .before .before .before .before .before .before in omega (arith, start t .pre .0 .few))
+    (λ c κs. let t = c .before .before .before .before .before .before .before .before .before in (start t .pre .1, t .before .loop .inv .long))
+    (λ c. let b = c .before .before .before .before .before .before .before in let t = b .before .before .before .before .before in omega (arith, t .before .loop .inv .fits, b .ballot-length .ensures .1, start t .good))
     (λ c. omega arith) (λ c. omega arith) loop-again
-    (λ c. c .before .loop .inv .long ∙ sym (c .before .before .before .before .before .before .pre .2)) returns-2)
+    (λ c. c .before .loop .inv .long ∙ sym (c .before .before .before .before .before .pre .2)) returns-2)

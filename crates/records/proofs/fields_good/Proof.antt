@@ -13,13 +13,13 @@ use Rattle.records.proofs.fields_good.Tie as tie
 -- the pairs, walked
 first : (c : tie.After-known-told) →
     let a = c .before .before .before .before .before .args in
-    (pairsFields (now (a .board)) (a .at + 4) (a .pairs) (a .p) (a .q) ≡ true) × (c .before .proofs .given .0 .0 ≡ a .at + 4 + 8 * a .pairs)
+    (pairsFields (now (a .board)) (a .at) (a .pairs) (a .p) (a .q) ≡ true) × (c .before .proofs .given .0 .0 ≡ a .at + 8 * a .pairs)
 first c = walk-to _ _ _ (sym (c .before .before .before .pairs-fields .ensures) ∙ c .before .proofs .given .1)
 
 returns : tie.Need-returns
 returns c =
     let a = c .before .before .before .before .args in
-    rw (walk-refused (pairsFields (now (a .board)) (a .at + 4) (a .pairs) (a .p) (a .q)) _ (sym (c .before .before .pairs-fields .ensures) ∙ c .enum-told .given .1))
+    rw (walk-refused (pairsFields (now (a .board)) (a .at) (a .pairs) (a .p) (a .q)) _ (sym (c .before .before .pairs-fields .ensures) ∙ c .enum-told .given .1))
 
 returns-2 : tie.Need-returns-2
 returns-2 c =
@@ -46,5 +46,5 @@ returns-3 c =
 pub fields-good-spec : {M : Type 1} → statement M
 fields-good-spec =
     tie.close
-    (tie.spec (λ c. search needs) (λ c κs. search needs) (λ c. search needs) (λ c. search needs) returns (λ c κs. omega (arith, first c .1))
+    (tie.spec (λ c κs. search needs) (λ c. search needs) (λ c. search needs) returns (λ c κs. omega (arith, first c .1))
     (λ c. search needs) (λ c. search needs) returns-2 returns-3)

@@ -6,6 +6,7 @@ use native.Mathlib.Omega.{arith}
 use borrow.Author.Needs.{needs}
 use Rattle.rules.specs.Check.{place}
 use Rattle.rules.specs.Records.{sheetLength}
+use Rattle.rules.proofs.Positions.{few-counted}
 use Rattle.frames.specs.declared.Fault.{Fault}
 use Rattle.frames.specs.declared.Fault.the-variants.{Sound}
 use Rattle.header.specs.Heads.{headOf}
@@ -35,7 +36,7 @@ found c =
     subst (λ (f : Fault). Searched (now (s .args .board)) (s .args .h) (s .args .round .a) (s .args .round .m) f (s .args .read .next) (s .args .read .number) (s .args .read .tally))
     (c .before .enum-told .given .1) (s .pre .1 .0)
 
-small : (c : tie.After-tally) → (start c) .args .read .number + 1 < 2 ^ 64
+small : (c : tie.After-tally) → (start c) .args .read .number + 2 < 2 ^ 64
 unfolding Searched
 small c =
     let s = start c in
@@ -50,7 +51,7 @@ unfolding Searched
 read-sheet-requires c κs =
     let s = start c in
     let f = found c in
-    ((s .pre .0 .0, s .pre .0 .1, omega (arith, s .pre .0 .2, s .pre .0 .3), omega (arith, s .pre .1 .1, f .2)), (f .4 .b-long, f .4 .y-long))
+    ((s .pre .0 .0, s .pre .0 .1, omega (arith, s .pre .0 .2, s .pre .0 .3), omega (arith, s .pre .1 .1, f .2)), (f .4 .b-long, f .4 .y-long, omega (arith, f .5, few-counted (now (s .args .board)) (headOf (now (s .args .board)) (s .args .h)) (s .args .h .k), s .pre .0 .0 .few)))
 
 -- what the sheet comes to, and where it ends
 read : (c : tie.After-read-sheet) →
@@ -59,7 +60,7 @@ read : (c : tie.After-read-sheet) →
 unfolding Searched
 read c =
     let s = start (c .before) in
-    stepping (now (s .args .board)) (s .args .h) (s .args .count) (s .args .round .m) (s .args .round .a) _ _ _ (here (c .before)) (s .pre .0 .2) (c .read-sheet .ensures .0 _ (found (c .before) .4))
+    stepping (now (s .args .board)) (s .args .h) (s .args .count) (s .args .round .m) (s .args .round .a) _ _ _ _ (here (c .before)) (found (c .before) .5) (s .pre .0 .2) (c .read-sheet .ensures .0 _ (found (c .before) .4))
 
 after : (c : tie.After-read-sheet) →
     let a = (start (c .before)) .args in

@@ -33,7 +33,7 @@ framed c = rw (c .enum-told .given .1) at (c .before .before .sheet-frame .ensur
 
 counted : (c : tie.After-enum-told2) →
     let a = c .before .before .before .before .before .before .before .before .before .args in
-    let r = c .before .before .sheet-fields .result in Counted (now (a .board)) (a .h) (a .at) (r .sheet .counts) (r .s) Sound
+    let r = c .before .before .sheet-fields .result in Counted (now (a .board)) (a .h) (a .tally .ballots) (a .at) (r .sheet .counts) (r .s) Sound
 counted c = rw (c .enum-told2 .given .1) at (c .before .before .sheet-fields .ensures)
 
 tallied : (c : tie.After-tallies) (T : said.Tally) →
@@ -41,7 +41,7 @@ tallied : (c : tie.After-tallies) (T : said.Tally) →
     Tallied (a .h .setup .group .p) (a .h .n) (a .tally) T → said.tallies (now (a .board)) (headOf (now (a .board)) (a .h)) (a .at) T ≡ c .tallies .result
 tallied c T v =
     let a = told-from-tallies c .before .before .before .before .before .before .args in
-    tallies-are (now (a .board)) (a .h) (a .at) (a .tally) T _ _ v (counted (c .before .before .before)) ∙ sym (c .tallies .ensures)
+    tallies-are (now (a .board)) (a .h) (a .tally .ballots) (a .at) (a .tally) T _ _ v (counted (c .before .before .before)) ∙ sym (c .tallies .ensures)
 
 next-is : (c : tie.After-sheet-length) → let a = start-from-length c .args in a .at + c .sheet-length .result ≡ a .at + sheetLength (a .h .n)
 next-is c = ap (λ (x : ℕ). start-from-length c .args .at + x) (c .sheet-length .ensures .0)
@@ -51,21 +51,21 @@ returns c =
     let length = c .before .before .before .before .before in
     let a = start-from-length length .args in (
       λ T v. rw (c .refused .ensures .0, c .refused .ensures .1)
-          (refused-step _ _ _ _ _ _ (wrong-frame (now (a .board)) (a .h) (a .at) (a .count .gone .outs + 1) T _ _
+          (refused-step _ _ _ _ _ _ (wrong-frame (now (a .board)) (a .h) (a .tally .ballots) (a .at) (a .count .gone .outs + 1) T _ _
           (rw (c .before .before .framed .given .1) at (c .before .before .before .before .sheet-frame .ensures)))),
       c .refused .ensures .2 ∙ next-is length,
     )
 
 sheet-fields-requires : tie.Need-sheet-fields-requires
 unfolding Framed
-sheet-fields-requires c κs = (c .before .before .before .before .before .before .pre .0 .0, framed c .0)
+sheet-fields-requires c κs = (c .before .before .before .before .before .before .pre .0 .0, framed c .0, c .before .before .before .before .before .before .pre .1 .2)
 
 returns-2 : tie.Need-returns-2
 returns-2 c =
     let told = c .before .before .before .before .before in
     let a = start-from-length (told .before .before .before) .args in (
       λ T v. rw (c .refused2 .ensures .0, c .refused2 .ensures .1)
-          (refused-step _ _ _ _ _ _ (wrong-fields (now (a .board)) (a .h) (a .at) (a .count .gone .outs + 1) T _ (framed told) _ _ _
+          (refused-step _ _ _ _ _ _ (wrong-fields (now (a .board)) (a .h) (a .tally .ballots) (a .at) (a .count .gone .outs + 1) T _ (framed told) _ _ _
           (rw (c .before .before .walked .given .1) at (c .before .before .before .before .sheet-fields .ensures)))),
       c .refused2 .ensures .2 ∙ next-is (told .before .before .before),
     )
@@ -76,7 +76,7 @@ returns-3 c =
     let told = told-from-tallies summed in
     let a = start-from-length (told .before .before .before) .args in (
       λ T v. rw (c .refused3 .ensures .0, c .refused3 .ensures .1)
-          (refused-step _ _ _ _ _ _ (wrong-tally (now (a .board)) (a .h) (a .at) (a .count .gone .outs + 1) T _ (framed told) _ _
+          (refused-step _ _ _ _ _ _ (wrong-tally (now (a .board)) (a .h) (a .tally .ballots) (a .at) (a .count .gone .outs + 1) T _ (framed told) _ _
           (counted (summed .before .before .before)) (tallied summed T v ∙ not-true _ (c .before .if1 .taken)))),
       c .refused3 .ensures .2 ∙ next-is (told .before .before .before),
     )
@@ -92,10 +92,10 @@ returns-4 c =
     let a = start-from-length (told .before .before .before) .args in
     let g = counted (summed .before .before .before) in (
       λ T v. rw (
-        last-test (now (a .board)) (a .h) (a .at) (a .count .gone .outs + 1) T
-            (due (headOf (now (a .board)) (a .h)) (standingOf (a .h .n) (a .count)) (said.countsAt (now (a .board)) (a .at) (a .h .n))) (framed told) _ _ g
+        last-test (now (a .board)) (a .h) (a .tally .ballots) (a .at) (a .count .gone .outs + 1) T
+            (due (a .h .n) (a .tally .ballots) (standingOf (a .h .n) (a .count)) (said.countsAt (now (a .board)) (a .at) (a .h .n))) (framed told) _ _ g
             (tallied summed T v ∙ not-false _ (c .before .before .if1 .left)),
-        ← counts-are (now (a .board)) (a .h) (a .at) _ _ g,
+        ← counts-are (now (a .board)) (a .h) (a .tally .ballots) (a .at) _ _ g,
         ← c .before .byte .ensures,
       ) (c .counted .ensures .0),
       c .counted .ensures .1 ∙ next-is (told .before .before .before),

@@ -18,15 +18,15 @@ use Rattle.sheets.proofs.sheet_fields.Statement.{statement}
 use Rattle.sheets.proofs.sheet_fields.Tie as tie
 
 abbrev Inv-loop : tie.InvT-loop
-Inv-loop board at n most q counts₀ s₀ place₀ i₀ counts s place i =
+Inv-loop board ballots at n most q counts₀ s₀ place₀ i₀ counts s place i =
     (i ≤ n) × (place ≡ at + 4 + 6 * i) × (length counts ≡ 8) × (length s ≡ 8) × (allBelow i (countGood board most q at) ≡ true)
     × (take i counts ≡ table i (λ i. number2 board (at + 4 + 6 * i))) × ((j : ℕ) → j < i → exponentOf s j ≡ number4 board (at + 6 + 6 * j))
 
 abbrev μ-loop : tie.MeasureT-loop
-μ-loop board at n most q counts₀ s₀ place₀ i₀ counts s place i = n - i
+μ-loop board ballots at n most q counts₀ s₀ place₀ i₀ counts s place i = n - i
 
 abbrev start-from-count : tie.After-count Inv-loop μ-loop → tie.Start Inv-loop μ-loop
-start-from-count c = c .before .before .before .before .before
+start-from-count c = c .before .before .before .before
 
 abbrev start-from-match2-keys1 : tie.At-match2-keys1 Inv-loop μ-loop → tie.Start Inv-loop μ-loop
 start-from-match2-keys1 c = start-from-count (c .before .before .before .before .before)
@@ -49,12 +49,12 @@ counted : (c : tie.After-known-told Inv-loop μ-loop) →
     let a = start-from-count (c .before .before .before) .args in
     let l = c .before .before .before .before .before .loop in
     let v = c .before .count2 .given .0 in
-    (leb (number2 (now (a .board)) (a .at + 4 + 6 * l .i)) (a .h .k) ≡ true) × (v .1 .0 ≡ a .at + 6 + 6 * l .i)
+    (leb (number2 (now (a .board)) (a .at + 4 + 6 * l .i)) (a .ballots) ≡ true) × (v .1 .0 ≡ a .at + 6 + 6 * l .i)
     × (v .0 ≡ number2 (now (a .board)) (a .at + 4 + 6 * l .i))
 counted c =
     let a = start-from-count (c .before .before .before) .args in
     let l = c .before .before .before .before .before .loop in
-    let w = count-value (now (a .board)) (l .place) (a .h .k) (sym (c .before .before .before .count .ensures) ∙ c .before .count2 .given .1) in
+    let w = count-value (now (a .board)) (l .place) (a .ballots) (sym (c .before .before .before .count .ensures) ∙ c .before .count2 .given .1) in
     (rw (← l .inv .1) (w .0), omega (arith, w .1), rw (← l .inv .1) (w .2))
 
 raised : (c : tie.After-known-told2 Inv-loop μ-loop) →
@@ -80,8 +80,8 @@ unfolding Counted
 returns c =
     let a = start-from-count (c .before .before) .args in
     let l = c .before .before .before .before .loop in
-    count-large (now (a .board)) (a .h) (a .at) (a .h .n) (l .i) (c .before .before .before .loop-test .taken) (l .inv .4)
-    (rw (← l .inv .1) (count-refused (now (a .board)) (l .place) (a .h .k) (sym (c .before .before .count .ensures) ∙ c .enum-told .given .1)))
+    count-large (now (a .board)) (a .h) (a .ballots) (a .at) (a .h .n) (l .i) (c .before .before .before .loop-test .taken) (l .inv .4)
+    (rw (← l .inv .1) (count-refused (now (a .board)) (l .place) (a .ballots) (sym (c .before .before .count .ensures) ∙ c .enum-told .given .1)))
 
 returns-2 : tie.Need-returns-2 Inv-loop μ-loop
 unfolding Counted
@@ -89,7 +89,7 @@ returns-2 c =
     let a = start-from-match2-keys2 (c .before) .args in
     let l = loop-from-known-told (c .before .before .before) .loop in
     let k = counted (c .before .before .before) in
-    exponent-large (now (a .board)) (a .h) (a .at) (a .h .n) (l .i) (loop-from-exponent (c .before .before) .loop-test .taken) (l .inv .4) (k .0)
+    exponent-large (now (a .board)) (a .h) (a .ballots) (a .at) (a .h .n) (l .i) (loop-from-exponent (c .before .before) .loop-test .taken) (l .inv .4) (k .0)
     (rw (← k .1) (exponent-refused (now (a .board)) (c .before .before .before .before .count2 .given .0 .1 .0) (a .h .setup .group .q)
     (sym (c .before .before .exponent .ensures) ∙ c .enum-told2 .given .1)))
 
@@ -111,11 +111,11 @@ loop-again c =
 returns-3 : tie.Need-returns-3 Inv-loop μ-loop
 unfolding Counted
 returns-3 c =
-    let a = c .before .before .before .before .args in
+    let a = c .before .before .before .args in
     let l = c .before .loop in
     let e : l .i ≡ a .h .n = omega arith in (
-      pass (now (a .board)) (a .h) (a .at) (a .h .n)
-          (all-end (a .h .n) (l .i) (countGood (now (a .board)) (a .h .k) (a .h .setup .group .q) (a .at)) (l .inv .0) (c .loop-test .left) (l .inv .4)),
+      pass (now (a .board)) (a .h) (a .ballots) (a .at) (a .h .n)
+          (all-end (a .h .n) (l .i) (countGood (now (a .board)) (a .ballots) (a .h .setup .group .q) (a .at)) (l .inv .0) (c .loop-test .left) (l .inv .4)),
       rw e at (l .inv .5),
       rw e at (l .inv .6),
     )
@@ -123,7 +123,7 @@ returns-3 c =
 pub sheet-fields-spec : {M : Type 1} → statement M
 sheet-fields-spec =
     tie.close
-    (tie.spec Inv-loop μ-loop (λ c. search needs) (λ c. omega (arith, c .before .before .good)) loop-holds (λ c κs. omega arith) (λ c. search needs)
+    (tie.spec Inv-loop μ-loop (λ c. search needs) (λ c. omega (arith, c .before .good)) loop-holds (λ c κs. omega arith) (λ c. search needs)
     (λ c. search needs) returns (λ c κs. omega (arith, counted c .1)) (λ c. search needs) (λ c. search needs) returns-2
     (λ c. omega (arith, room c)) (λ c. omega (arith, room c)) (λ c. omega (arith, room c)) (λ c. omega (arith, room c)) (λ c. omega (arith, room c))
     (λ c. omega (arith, room c)) loop-again returns-3)

@@ -2,22 +2,23 @@
 use Prim.Native.Nat.{ℕ, suc, _+_, _-_, _≤_, _<_}
 use native.Mathlib.Omega.{arith}
 use mathlib.Core.Path.{_≡_, refl, ap}
+use mathlib.Core.Bool.{true}
 use mathlib.Core.List.{List, [], _∷_, _++_}
 use lib.ListN.{length}
 use Rattle.group.specs.Elements.{Parameters}
 use Rattle.rules.specs.Bytes.{number2, bytes2, Stands}
-use Rattle.rules.specs.Records.{recordLength}
+use Rattle.rules.specs.Records.{isCounted, shiftLength}
 use Rattle.rules.specs.Claims.{Matrix, matrixAt}
 use Rattle.rules.specs.Shift.{shiftProof, shiftContext}
 use Rattle.rules.proofs.Places.{stands-left, stands-right, stands-moved, half-stands}
-use Rattle.jobs.specs.Job.{Job, groupOf, headerOf, rankingOf, remaining, plainResult, rowsOf, rowOf, drawsAt}
-use Rattle.jobs.specs.Board.{jobMatrix, jobShift, recordBytes}
+use Rattle.jobs.specs.Job.{Job, groupOf, headerOf, rankingOf, kindOf, remaining, plainResult, rowsOf, rowOf}
+use Rattle.jobs.specs.Board.{jobDraws, jobMatrix, jobShift}
 use Rattle.jobs.specs.Prover.{proofBytes}
 use Rattle.jobs.specs.Records.{pairBytes, shiftProver, shiftBytes}
 use Rattle.jobs.proofs.FineJob.{Fine}
 use Rattle.jobs.proofs.Rankings.{times}
 use Rattle.jobs.proofs.Matrices.{SameMatrix, shift-same}
-use Rattle.jobs.proofs.Lengths.{length-pairs, length-record}
+use Rattle.jobs.proofs.Lengths.{length-pairs, length-shift}
 use Rattle.whole.specs.Rules.{ShiftRules}
 use Rattle.whole.proofs.Complete.Honest.{honest-fields, honest-holds}
 use Rattle.whole.proofs.Complete.WrittenShift.{shift-honest}
@@ -37,9 +38,9 @@ module _ (hash : List ℕ → List ℕ) (job : Job) (before : List ℕ) (a m k :
   thePairs = pairBytes (job .n) new R
 
   abbrev theProof : List ℕ
-  theProof = proofBytes g (shiftProver g (job .n) R (suc m + 1) (k + 1) (rowsOf job before k) (rowsOf job (before ++ (a ∷ [])) k) (rowOf a (remaining before (rankingOf job k))) (a - 1) (job .draws) (drawsAt (job .n) (job .K) m k) (drawsAt (job .n) (job .K) (suc m) k)) hash (job .label)
+  theProof = proofBytes g (shiftProver g (job .n) R (suc m + 1) (k + 1) (rowsOf job before k) (rowsOf job (before ++ (a ∷ [])) k) (rowOf a (remaining before (rankingOf job k))) (a - 1) (job .draws) (jobDraws job m k) (jobDraws job (suc m) k)) hash (job .label)
 
-  module _ (f : Fine hash job) (in-round : suc m < plainResult job .rounds) (in-ballots : k < job .K) (rows : suc m ≤ job .n)
+  module _ (f : Fine hash job) (in-round : suc m < plainResult job .rounds) (in-ballots : k < job .K) (is-counted : isCounted (kindOf job k) ≡ true) (rows : suc m ≤ job .n)
       (a-low : 1 ≤ a) (a-high : a ≤ job .n)
       (a-once : times a (remaining before (rankingOf job k)) ≡ 1) (short : length (remaining before (rankingOf job k)) ≤ job .n - m)
       (s : List ℕ) (at old : ℕ) (old-read : SameMatrix (job .n - m) (job .n) (matrixAt s (job .n) old) (jobMatrix job g before m k))
@@ -48,8 +49,8 @@ module _ (hash : List ℕ → List ℕ) (job : Job) (before : List ℕ) (a m k :
     unfolding shiftBytes
     after-number = stands-right (83 ∷ 72 ∷ bytes2 (k + 1)) _ refl stands
 
-    pub shift-matrix : SameMatrix R (job .n) (matrixAt s (job .n) at) new
-    shift-matrix = written-matrix hash job f (before ++ (a ∷ [])) (suc m) k s at R (stands-left thePairs theProof after-number)
+    pub shift-matrix : SameMatrix R (job .n) (matrixAt s (job .n) (at + 4)) new
+    shift-matrix = written-matrix hash job f (before ++ (a ∷ [])) (suc m) k s (at + 4) R (stands-left thePairs theProof after-number)
 
     proof-stands : Stands s (shiftProof (job .n) R at) theProof
     proof-stands = stands-moved (omega arith) (stands-right thePairs theProof (length-pairs (job .n) new R) after-number)
@@ -59,12 +60,13 @@ module _ (hash : List ℕ → List ℕ) (job : Job) (before : List ℕ) (a m k :
     numbered = half-stands (omega (arith, f .K-high)) (stands-left (bytes2 (k + 1)) _ (stands-right (83 ∷ 72 ∷ []) _ refl stands))
 
     pub shift-kept : ShiftRules hash s (headerOf hash job) R at (suc m + 1) a old (k + 1)
-    unfolding shiftBytes recordBytes recordLength
+    unfolding shiftBytes
     shift-kept =
         let e : job .n - m ≡ R + 1 = omega arith in
-        let honest = shift-honest hash job f before a m k in-round in-ballots rows a-low a-once short in
+        let long : length (jobShift hash job g before a m k) ≡ shiftLength (job .n) R = length-shift hash (job .label) g (job .n) R (suc m + 1) (k + 1) _ _ _ _ (job .draws) _ _ in
+        let honest = shift-honest hash job f before a m k in-round in-ballots is-counted rows a-low a-once short in
         record {
-          fits = omega (arith, stands .fits, length-record hash job g before a (suc m) k);
+          fits = omega (arith, stands .fits, long);
           marked = mark-stands stands;
           numbered = numbered;
           pairs = written-good hash job f (before ++ (a ∷ [])) (suc m) k R _ shift-matrix;

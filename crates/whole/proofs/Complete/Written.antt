@@ -3,16 +3,18 @@ use Prim.Native.Nat.{ℕ, zero, suc, _+_, _*_, _-_, _%_, _^_, _≤_, _<_}
 use native.Mathlib.Nat.{mod-mod, mul-le-mul-right, le-trans}
 use native.Mathlib.Omega.{arith}
 use mathlib.Core.Path.{_≡_, refl, _∙_}
-use mathlib.Core.Bool.{Bool}
+use mathlib.Core.Bool.{Bool, true}
 use mathlib.Core.List.{List, []}
 use lib.Dec.{eqb}
 use lib.ListN.{getD}
 use Rattle.numbers.specs.Below.{sumBelow}
 use Rattle.group.specs.Arithmetic.{powMod}
 use Rattle.rules.specs.Group.{paired}
+use Rattle.rules.specs.Records.{isCounted}
 use Rattle.rules.specs.Proofs.{Context}
 use Rattle.rules.specs.Claims.{lineClaim, entryClaim}
-use Rattle.jobs.specs.Job.{Job, groupOf, rankingOf, remaining, recordDraws, roundDraws, drawsAt, needed, plainResult, draw, rowsOf}
+use Rattle.jobs.specs.Job.{Job, groupOf, rankingOf, kindOf, remaining, recordDraws, needed, plainResult, draw, rowsOf}
+use Rattle.jobs.specs.Board.{jobDraws}
 use Rattle.rules.proofs.Elements.{Good, power-root, pair-root, paired-mod, root-mod, root-over, root-prod}
 use Rattle.whole.proofs.Complete.Honest.{Honest}
 use Rattle.numbers.proofs.Tests.{by-cases}
@@ -21,33 +23,36 @@ use Rattle.jobs.proofs.Rankings.{row-one, column-one}
 use Rattle.jobs.proofs.Lists.{standing-all}
 use Rattle.whole.proofs.Complete.Claims.{prod-powers, prod-pairs, pair-zero, pair-one}
 use Rattle.jobs.specs.Records.{secretAt, opened, matrixOf, lineProver, entryProver, rowProver, columnProver}
-use Rattle.jobs.proofs.Draws.{secrets-within, draws-mono}
+use Rattle.jobs.proofs.Draws.{secrets-within, draws-within, draws-mono}
 
 -- ballot k's secret in round m at row i, column j
 abbrev pub secret : Job → (m k i j : ℕ) → ℕ
-secret job m k i j = secretAt (job .n) (job .draws) (drawsAt (job .n) (job .K) m k) i j
+secret job m k i j = secretAt (job .n) (job .draws) (jobDraws job m k) i j
 
 -- a place in a matrix of so many rows
 pub cell : (n rows i j : ℕ) → i < rows → j < n → i * n + j < rows * n
 cell n rows i j a b = omega (arith, mul-le-mul-right n a)
 
 module _ (hash : List ℕ → List ℕ) (job : Job) (f : Fine hash job) (m k : ℕ) (in-round : m < plainResult job .rounds) (in-ballots : k < job .K) where
-  pub draw-at : (e d : ℕ) → e < recordDraws (job .n) m → d ≡ drawsAt (job .n) (job .K) m k + e → (1 ≤ draw job d) × (draw job d < job .q)
-  unfolding needed roundDraws
+  pub draw-at : (e d : ℕ) → e < recordDraws (job .n) (kindOf job k) m → d ≡ jobDraws job m k + e → (1 ≤ draw job d) × (draw job d < job .q)
+  unfolding needed
   draw-at e d l q =
-      let up : roundDraws (job .n) (job .K) (suc m) ≤ roundDraws (job .n) (job .K) (plainResult job .rounds) = draws-mono (job .n) (job .K) (suc m) _ in-round in
-      let more : (k + 1) * recordDraws (job .n) m ≤ job .K * recordDraws (job .n) m = mul-le-mul-right (recordDraws (job .n) m) (omega arith) in
-      f .drawn d (omega arith)
+      f .drawn d (omega (arith, draws-within (job .n) (kindOf job) (job .K) m k in-ballots, draws-mono (job .n) (kindOf job) (job .K) (suc m) (plainResult job .rounds) in-round))
 
-  pub draw-below : (e d : ℕ) → e < recordDraws (job .n) m → d ≡ drawsAt (job .n) (job .K) m k + e → draw job d < job .q
+  pub draw-below : (e d : ℕ) → e < recordDraws (job .n) (kindOf job k) m → d ≡ jobDraws job m k + e → draw job d < job .q
   draw-below e d l q = draw-at e d l q .1
 
-  pub secret-at : (i j : ℕ) → i < job .n - m → j < job .n → (1 ≤ secret job m k i j) × (secret job m k i j < job .q)
-  secret-at i j a b = draw-at (i * job .n + j) _ (le-trans (cell (job .n) (job .n - m) i j a b) (secrets-within (job .n) m)) refl
+  pub secret-at : isCounted (kindOf job k) ≡ true → (i j : ℕ) → i < job .n - m → j < job .n → (1 ≤ secret job m k i j) × (secret job m k i j < job .q)
+  secret-at c i j a b = draw-at (i * job .n + j) _ (le-trans (cell (job .n) (job .n - m) i j a b) (secrets-within (job .n) (kindOf job k) m c)) refl
 
 module _ (hash : List ℕ → List ℕ) (job : Job) (f : Fine hash job) (k : ℕ) (in-round : 0 < plainResult job .rounds) (in-ballots : k < job .K) where
   good : Good (groupOf hash job)
   good = good-group hash job f
+
+  -- of a BA, audited ones too
+  pub first-secret : (i j : ℕ) → i < job .n → j < job .n → secret job 0 k i j < job .q
+  unfolding recordDraws
+  first-secret i j a b = draw-below hash job f 0 k in-round in-ballots (i * job .n + j) _ (omega (arith, cell (job .n) (job .n) i j a b)) refl
 
   -- both sides of an entry's claim
   entry-roots : (x v l : ℕ) →
@@ -58,7 +63,7 @@ module _ (hash : List ℕ → List ℕ) (job : Job) (f : Fine hash job) (k : ℕ
   entry-roots x v (suc l) = (root-over (groupOf hash job) good _ _ (pair-root (groupOf hash job) good x v) (good .root1), power-root (groupOf hash job) good x)
 
   pub entry-honest : (i j : ℕ) → i < job .n → j < job .n →
-      Honest (groupOf hash job) (entryProver (groupOf hash job) (job .n) (k + 1) (rowsOf job [] k) (job .draws) (drawsAt (job .n) (job .K) 0 k) i j)
+      Honest (groupOf hash job) (entryProver (groupOf hash job) (job .n) (k + 1) (rowsOf job [] k) (job .draws) (jobDraws job 0 k) i j)
   unfolding entryClaim matrixOf powMod recordDraws
   entry-honest i j a b =
       let v : Bool = eqb (getD (remaining [] (rankingOf job k)) i 0) (j + 1) in
@@ -75,14 +80,14 @@ module _ (hash : List ℕ → List ℕ) (job : Job) (f : Fine hash job) (k : ℕ
       }
 
   -- a row or column: n pairs that open to one 1 among them, and the proof of its claim, whose draw is the d-th of the record
-  module _ (x v : ℕ → ℕ) (one : sumBelow (job .n) v ≡ 1) (d : ℕ) (inside : d < recordDraws (job .n) 0) where
+  module _ (x v : ℕ → ℕ) (one : sumBelow (job .n) v ≡ 1) (d : ℕ) (inside : d < recordDraws (job .n) (kindOf job k) 0) where
     abbrev lineFirsts : ℕ → ℕ
     lineFirsts i = paired (groupOf hash job) (x i) (v i)
 
     abbrev lineSeconds : ℕ → ℕ
     lineSeconds i = powMod (job .p) (groupOf hash job .g1) (x i)
 
-    line-honest : (c : Context) (from : ℕ) → from ≡ drawsAt (job .n) (job .K) 0 k + d →
+    line-honest : (c : Context) (from : ℕ) → from ≡ jobDraws job 0 k + d →
         Honest (groupOf hash job) (lineProver c (job .draws) (lineClaim (groupOf hash job) (job .n) lineFirsts lineSeconds) (sumBelow (job .n) x) from)
     unfolding lineClaim
     line-honest c from e =
@@ -97,14 +102,14 @@ module _ (hash : List ℕ → List ℕ) (job : Job) (f : Fine hash job) (k : ℕ
           drawn = λ d' l. draw-below hash job f 0 k in-round in-ballots (d + d') _ (omega arith) (omega arith);
         }
 
-  pub row-honest : (i : ℕ) → i < job .n → Honest (groupOf hash job) (rowProver (groupOf hash job) (job .n) (k + 1) (rowsOf job [] k) (job .draws) (drawsAt (job .n) (job .K) 0 k) i)
+  pub row-honest : (i : ℕ) → i < job .n → Honest (groupOf hash job) (rowProver (groupOf hash job) (job .n) (k + 1) (rowsOf job [] k) (job .draws) (jobDraws job 0 k) i)
   unfolding matrixOf recordDraws
   row-honest i a =
       line-honest (λ j. secret job 0 k i j) (λ j. opened (rowsOf job [] k) i j)
       (rw (standing-all (rankingOf job k)) (row-one (job .n) (rankingOf job k) (f .ranked k in-ballots) i a))
       (4 * (job .n * job .n) + i) (omega arith) _ _ (omega arith)
 
-  pub column-honest : (j : ℕ) → j < job .n → Honest (groupOf hash job) (columnProver (groupOf hash job) (job .n) (k + 1) (rowsOf job [] k) (job .draws) (drawsAt (job .n) (job .K) 0 k) j)
+  pub column-honest : (j : ℕ) → j < job .n → Honest (groupOf hash job) (columnProver (groupOf hash job) (job .n) (k + 1) (rowsOf job [] k) (job .draws) (jobDraws job 0 k) j)
   unfolding matrixOf recordDraws
   column-honest j a =
       line-honest (λ i. secret job 0 k i j) (λ i. opened (rowsOf job [] k) i j)

@@ -15,8 +15,9 @@ use Rattle.rules.specs.Group.{paired}
 use Rattle.group.specs.Arithmetic.{powMod}
 use Rattle.rules.specs.Claims.{Matrix, shiftClaim, source, besides}
 use Rattle.rules.specs.Count.{member}
-use Rattle.jobs.specs.Board.{jobMatrix}
-use Rattle.jobs.specs.Job.{Job, groupOf, rankingOf, remaining, rowOf, recordDraws, plainResult, rowsOf, drawsAt}
+use Rattle.rules.specs.Records.{isCounted}
+use Rattle.jobs.specs.Board.{jobDraws, jobMatrix}
+use Rattle.jobs.specs.Job.{Job, groupOf, rankingOf, remaining, kindOf, rowOf, recordDraws, plainResult, rowsOf}
 use Rattle.rules.proofs.Elements.{Good, power-root, pair-root, paired-mod, root-mod, root-over, root-prod, root-one}
 use Rattle.whole.proofs.Complete.Honest.{Honest}
 use Rattle.numbers.proofs.Tests.{by-cases}
@@ -29,7 +30,7 @@ use Rattle.jobs.specs.Records.{matrixOf, shiftProver, shiftWitness}
 use Rattle.jobs.proofs.Matrices.{source-below}
 
 module _ (hash : List ℕ → List ℕ) (job : Job) (f : Fine hash job) (before : List ℕ) (a m k : ℕ)
-    (in-round : suc m < plainResult job .rounds) (in-ballots : k < job .K) (rows : suc m ≤ job .n) (a-low : 1 ≤ a)
+    (in-round : suc m < plainResult job .rounds) (in-ballots : k < job .K) (is-counted : isCounted (kindOf job k) ≡ true) (rows : suc m ≤ job .n) (a-low : 1 ≤ a)
     (a-once : times a (remaining before (rankingOf job k)) ≡ 1) (short : length (remaining before (rankingOf job k)) ≤ job .n - m) where
   abbrev g : Parameters
   g = groupOf hash job
@@ -44,7 +45,7 @@ module _ (hash : List ℕ → List ℕ) (job : Job) (f : Fine hash job) (before 
   new = jobMatrix job g (before ++ (a ∷ [])) (suc m) k
 
   abbrev witness : ℕ → ℕ
-  witness = shiftWitness (job .q) (job .n) (job .draws) (drawsAt (job .n) (job .K) m k) (drawsAt (job .n) (job .K) (suc m) k) (a - 1) row
+  witness = shiftWitness (job .q) (job .n) (job .draws) (jobDraws job m k) (jobDraws job (suc m) k) (a - 1) row
 
   good : Good g
   good = good-group hash job f
@@ -77,7 +78,7 @@ module _ (hash : List ℕ → List ℕ) (job : Job) (f : Fine hash job) (before 
       let some : 0 < job .n = omega (arith, f .n-low) in
       let b : i / job .n < job .n - suc m = div-lt-iff-lt-mul some .1 l in
       let c : source row (i / job .n) < job .n - suc m + 1 = source-below row (i / job .n) (job .n - suc m) b in
-      omega (arith, secret-at hash job f m k (omega arith) in-ballots (source row (i / job .n)) (i % job .n) (omega arith) (mod-lt i some) .1)
+      omega (arith, secret-at hash job f m k (omega arith) in-ballots is-counted (source row (i / job .n)) (i % job .n) (omega arith) (mod-lt i some) .1)
 
   -- the new row i is the row that it comes from
   moved : (i : ℕ) → getD (remaining (before ++ (a ∷ [])) (rankingOf job k)) i 0 ≡ getD (remaining before (rankingOf job k)) (source row i) 0
@@ -120,7 +121,7 @@ module _ (hash : List ℕ → List ℕ) (job : Job) (f : Fine hash job) (before 
   known-right (suc (suc i)) l = power-over g good _ _ (source-secret i (omega arith))
 
   pub shift-honest :
-      Honest g (shiftProver g (job .n) (job .n - suc m) (suc m + 1) (k + 1) (rowsOf job before k) (rowsOf job (before ++ (a ∷ [])) k) row (a - 1) (job .draws) (drawsAt (job .n) (job .K) m k) (drawsAt (job .n) (job .K) (suc m) k))
+      Honest g (shiftProver g (job .n) (job .n - suc m) (suc m + 1) (k + 1) (rowsOf job before k) (rowsOf job (before ++ (a ∷ [])) k) row (a - 1) (job .draws) (jobDraws job m k) (jobDraws job (suc m) k))
   unfolding recordDraws
   shift-honest =
       record {
@@ -130,5 +131,5 @@ module _ (hash : List ℕ → List ℕ) (job : Job) (f : Fine hash job) (before 
         root-right = λ l i _ _. root-right l i;
         known-left = known-left;
         known-right = known-right;
-        drawn = λ d l. draw-below hash job f (suc m) k in-round in-ballots ((job .n - suc m) * job .n + d) _ (omega arith) (omega arith);
+        drawn = λ d l. draw-below hash job f (suc m) k in-round in-ballots ((job .n - suc m) * job .n + d) _ (rw is-counted (omega arith)) (omega arith);
       }

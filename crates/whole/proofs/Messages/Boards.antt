@@ -8,6 +8,7 @@ use native.Mathlib.Omega.{arith}
 use lib.ListN.{length, length-take, length-drop, length-append}
 use borrow.Author.Tests.{ltb-true}
 use Rattle.numbers.specs.Below.{sumBelow}
+use Rattle.numbers.proofs.Tests.{by-cases}
 use Rattle.group.specs.Arithmetic.{over}
 use Rattle.group.specs.Elements.{isElement}
 use Rattle.rules.specs.Bytes.{number2}
@@ -15,13 +16,13 @@ use Rattle.rules.specs.Group.{orders}
 use Rattle.rules.specs.Proofs.{commitmentsAt, challenge}
 use Rattle.rules.specs.Claims.{Matrix, entryClaim, lineClaim, shiftClaim}
 use Rattle.rules.specs.Count.{leaves}
-use Rattle.rules.specs.Records.{headerLength}
+use Rattle.rules.specs.Records.{headerLength, isCounted, recordsOf}
 use Rattle.rules.specs.Header.{Header, header}
-use Rattle.rules.specs.Check.{place, matrix, counts}
+use Rattle.rules.specs.Check.{place, kind, matrix, counts}
 use Rattle.rules.proofs.Sizes.{cells}
 use Rattle.rules.proofs.Leaving.{leaves-in}
 use Rattle.whole.specs.Rules.{e, PairRules, ProofFields}
-use Rattle.whole.specs.SecondDemand.{standingAt, outBefore, EveryRuleHolds}
+use Rattle.whole.specs.SecondDemand.{HasRecord, standingAt, outBefore, EveryRuleHolds}
 use Rattle.whole.specs.Messages.{Form, entry, row, column, shift, branchesOf, statementsOf, contextOf, branches, statements, hashedMessage, Fits, OnBoard, recordOf, proofOf, claimOf, onBoard}
 use Rattle.whole.proofs.SecondDemand.{early}
 use Rattle.whole.proofs.Sound.Accepted.{header-good}
@@ -80,9 +81,12 @@ module _ (hash : List ℕ → List ℕ) (s : List ℕ) (rounds : ℕ) (order : L
 
   -- ---- the records of ballot k
   module _ (k : ℕ) (in-ballots : k < h .K) where
-    pairs-in : (m : ℕ) → m < rounds → PairRules (h .group) (h .n - m) (h .n) (matrix s h m k)
-    pairs-in zero l = rw sub-zero (w .records 0 k l in-ballots .pairs)
-    pairs-in (suc m) l = w .records (suc m) k l in-ballots .pairs
+    abbrev IsCounted : Type 0
+    IsCounted = isCounted (kind s h k) ≡ true
+
+    pairs-in : (m : ℕ) → m < rounds → IsCounted → PairRules (h .group) (h .n - m) (h .n) (matrix s h m k)
+    pairs-in zero l c = rw sub-zero (w .records 0 k l in-ballots .ballot .pairs)
+    pairs-in (suc m) l c = w .records (suc m) k l in-ballots c .pairs
 
     gone-counted : (m : ℕ) → length (standingAt s m .gone) ≡ m
     unfolding standingAt
@@ -100,23 +104,33 @@ module _ (hash : List ℕ → List ℕ) (s : List ℕ) (rounds : ℕ) (order : L
     first : 0 < rounds
     first = omega (arith, w .rounds-are)
 
-    numbered : (m : ℕ) → m < rounds → number2 s (place s h m k + 2) ≡ k + 1
-    numbered zero l = w .records 0 k l in-ballots .numbered
-    numbered (suc m) l = w .records (suc m) k l in-ballots .numbered
+    numbered : (m : ℕ) → m < rounds → HasRecord s h m k → number2 s (place s h m k + 2) ≡ k + 1
+    unfolding recordsOf
+    numbered zero l has = w .records 0 k l in-ballots .ballot .numbered
+    numbered (suc m) l has = by-cases (isCounted (kind s h k)) (λ c. w .records (suc m) k l in-ballots c .numbered) (λ c. absurd (omega (arith, rw c at has)))
+
+    -- BA, and SH of a counted ballot
+    has-ballot : HasRecord s h 0 k
+    unfolding recordsOf
+    has-ballot = refl
+
+    has-shift : (m : ℕ) → IsCounted → HasRecord s h (suc m) k
+    unfolding recordsOf
+    has-shift m c = rw c
 
     shown-below : (at b S : ℕ) → ProofFields s (h .group) at b S → (l i : ℕ) → l < b → i < S → Small (commitmentsAt s at S l i .t1) × Small (commitmentsAt s at S l i .t2)
     shown-below at b S f l i c d = (element-below _ (f .t1-element l i c d), element-below _ (f .t2-element l i c d))
 
-    number-below : (m : ℕ) → m < rounds → number2 s (place s h m k + 2) < 2 ^ 16
-    number-below m l = rw (numbered m l) (omega (arith, few .2))
+    number-below : (m : ℕ) → m < rounds → HasRecord s h m k → number2 s (place s h m k + 2) < 2 ^ 16
+    number-below m l has = rw (numbered m l has) (omega (arith, few .2))
 
-    pub fits : (f : Form) → OnBoard (h .n) rounds f → Fits (onBoard s k f)
+    pub fits : (f : Form) → OnBoard (h .n) rounds (kind s h k) f → Fits (onBoard s k f)
     unfolding branchesOf statementsOf contextOf OnBoard recordOf proofOf claimOf
     fits (entry i j) o =
-        let r = w .records 0 k first in-ballots in
+        let r = w .records 0 k first in-ballots .ballot in
         record {
           label-long = label-long s (w .head .fits);
-          number-below = number-below 0 first;
+          number-below = number-below 0 first has-ballot;
           place-below = omega (arith, cell (h .n) (h .n) i j (o .0) (o .1), cells (h .n) (few .1));
           claims-below = λ l _ _ _. entry-below _ _ l (element-below _ (r .pairs .b-element i j (o .0) (o .1))) (element-below _ (r .pairs .y-element i j (o .0) (o .1)));
           commitments-below = shown-below _ 2 1 (r .entry-fields i j (o .0) (o .1));
@@ -124,43 +138,43 @@ module _ (hash : List ℕ → List ℕ) (s : List ℕ) (rounds : ℕ) (order : L
     fits (row i) o =
         record {
           label-long = label-long s (w .head .fits);
-          number-below = number-below 0 first;
+          number-below = number-below 0 first has-ballot;
           place-below = omega (arith, cells (h .n) (few .1), few .1);
           claims-below = λ _ _ _ _. line-below _ _ _;
-          commitments-below = shown-below _ 1 1 (w .records 0 k first in-ballots .row-fields i o);
+          commitments-below = shown-below _ 1 1 (w .records 0 k first in-ballots .ballot .row-fields i o);
         }
     fits (column j) o =
         record {
           label-long = label-long s (w .head .fits);
-          number-below = number-below 0 first;
+          number-below = number-below 0 first has-ballot;
           place-below = omega (arith, cells (h .n) (few .1), few .1);
           claims-below = λ _ _ _ _. line-below _ _ _;
-          commitments-below = shown-below _ 1 1 (w .records 0 k first in-ballots .column-fields j o);
+          commitments-below = shown-below _ 1 1 (w .records 0 k first in-ballots .ballot .column-fields j o);
         }
     fits (shift m) o =
-        let r = w .records (suc m) k o in-ballots in
-        let out = out-in m o in
+        let r = w .records (suc m) k (o .0) in-ballots (o .1) in
+        let out = out-in m (o .0) in
         record {
           label-long = label-long s (w .head .fits);
-          number-below = number-below (suc m) o;
+          number-below = number-below (suc m) (o .0) (has-shift m (o .1));
           place-below = omega arith;
-          claims-below = λ l i a b. shift-below _ _ _ l i (element-below _ (pairs-in m (omega arith) .y-element l _ (omega (arith, out .0)) (out .1)));
+          claims-below = λ l i a b. shift-below _ _ _ l i (element-below _ (pairs-in m (omega (arith, o .0)) (o .1) .y-element l _ (omega (arith, out .0)) (out .1)));
           commitments-below = shown-below _ _ _ (r .proof-fields);
         }
 
-    pub adds-up : (f : Form) → OnBoard (h .n) rounds f →
+    pub adds-up : (f : Form) → OnBoard (h .n) rounds (kind s h k) f →
         let x = onBoard s k f in
         sumBelow (branches x) (e s (h .group) (proofOf s k f) (branches x) (statements x)) % h .group .q ≡ challenge hash (hashedMessage x) (h .group .q)
     unfolding branchesOf statementsOf contextOf OnBoard recordOf proofOf claimOf
-    adds-up (entry i j) o = w .records 0 k first in-ballots .entries i j (o .0) (o .1) .adds-up
-    adds-up (row i) o = w .records 0 k first in-ballots .rows i o .adds-up
-    adds-up (column j) o = w .records 0 k first in-ballots .columns j o .adds-up
-    adds-up (shift m) o = w .records (suc m) k o in-ballots .proof .adds-up
+    adds-up (entry i j) o = w .records 0 k first in-ballots .ballot .entries i j (o .0) (o .1) .adds-up
+    adds-up (row i) o = w .records 0 k first in-ballots .ballot .rows i o .adds-up
+    adds-up (column j) o = w .records 0 k first in-ballots .ballot .columns j o .adds-up
+    adds-up (shift m) o = w .records (suc m) k (o .0) in-ballots (o .1) .proof .adds-up
 
     -- the number that its message names
-    pub number-is : (f : Form) → OnBoard (h .n) rounds f → onBoard s k f .number ≡ k + 1
+    pub number-is : (f : Form) → OnBoard (h .n) rounds (kind s h k) f → onBoard s k f .number ≡ k + 1
     unfolding OnBoard recordOf
-    number-is (entry i j) o = numbered 0 first
-    number-is (row i) o = numbered 0 first
-    number-is (column j) o = numbered 0 first
-    number-is (shift m) o = numbered (suc m) o
+    number-is (entry i j) o = numbered 0 first has-ballot
+    number-is (row i) o = numbered 0 first has-ballot
+    number-is (column j) o = numbered 0 first has-ballot
+    number-is (shift m) o = numbered (suc m) (o .0) (has-shift m (o .1))

@@ -100,9 +100,9 @@ cell-told n i j i' j' h h' e =
     let column : (a b : ℕ) → b < n → (a * n + b) % n ≡ b = λ a b l. mul-add-mod-self-right a n b ∙ mod-eq-of-lt l in
     (sym (row i j h) ∙ ap (λ (x : ℕ). x / n) e ∙ row i' j' h', sym (column i j h) ∙ ap (λ (x : ℕ). x % n) e ∙ column i' j' h')
 
-module _ (n rounds number number' : ℕ) where
+module _ (n rounds kind kind' number number' : ℕ) where
   abbrev Same : Form → Form → Type 0
-  Same f f' = OnBoard n rounds f → OnBoard n rounds f' → contextOf n number f ≡ contextOf n number' f' → f ≡ f'
+  Same f f' = OnBoard n rounds kind f → OnBoard n rounds kind' f' → contextOf n number f ≡ contextOf n number' f' → f ≡ f'
 
   abbrev at : Context → ℕ
   at c = c .place

@@ -21,12 +21,14 @@ use borrow.Author.Needs.{needs}
 use Rattle.writer.proofs.write.Statement.{statement}
 use Rattle.writer.proofs.write.Tie as tie
 
-abbrev jobAt : tie.After-up-to-rankings → J.Job
-jobAt c = let f = c .before .before .before .before .before .args in jobOf (f .job) (now (f .label)) (now (f .rankings)) (now (f .draws))
+abbrev jobAt : tie.After-up-to-kinds → J.Job
+jobAt c =
+    let f = c .before .before .before .before .before .before .args in
+    jobOf (f .job) (now (f .label)) (now (f .rankings)) (now (f .kinds)) (now (f .draws))
 
 -- what the first tests told, in the case that was met
-told : (c : tie.After-up-to-rankings) (t : Tested) → c .up-to-rankings .result ≡ t → JobTested (jobAt c) t
-told c t e = subst (JobTested (jobAt c)) e (c .up-to-rankings .ensures _)
+told : (c : tie.After-up-to-kinds) (t : Tested) → c .up-to-kinds .result ≡ t → JobTested (jobAt c) t
+told c t e = subst (JobTested (jobAt c)) e (c .up-to-kinds .ensures _)
 
 -- the tests were passed, and this is the group
 abbrev job : tie.After-known-told → J.Job
@@ -101,8 +103,8 @@ returns-4 c =
 
 pub write-spec : {M : Type 1} → statement M
 write-spec = tie.close (tie.spec (λ c κs. search needs) (λ c. search needs) (λ c. search needs) (λ c κs. search needs) returns
-    (λ c κs. measurable (job c) (sound c .0)) (λ c. omega (arith, c .before .before .count .ensures .1 .listed .few))
-    (λ c κs. let w = measurable (job (c .before .before .before)) (sound (c .before .before .before) .0) in (w .1, omega (arith, c .before .before .count .ensures .2), w .2))
+    (λ c κs. measurable (job c) (sound c .0)) (λ c. search needs)
+    (λ c κs. let t = c .before .before .before in let w = measurable (job t) (sound t .0) in (w .1, omega (arith, c .before .before .count .ensures .2), w .2, w .4))
     (λ c κs. search needs) (λ c κs. search needs) returns-2
     (λ c κs. let t = passed (c .before .before) in group-positive (job t) _ (sound t .1) (sound t .0 .ordered)) put-board-requires (λ c κs. search needs)
     (λ c. search needs) returns-3 (λ c κs. measured-is (at (c .before .before .before)) .kept) (λ c. search needs) returns-4)

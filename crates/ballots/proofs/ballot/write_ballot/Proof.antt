@@ -1,59 +1,47 @@
-use Prim.Native.Nat.{ℕ, _+_, _*_, _-_, _≤_}
-use mathlib.Core.Path.{ap, _∙_}
+use Prim.Native.Nat.{ℕ, _+_, _*_, _≤_}
+use mathlib.Core.Path.{_≡_, sym, ap, _∙_}
 use mathlib.Core.List.{List}
 use native.Mathlib.Omega.{arith}
 use lib.ListN.{getD, length-take, length-drop}
 use denote.Ref.{now}
 use Rattle.group.specs.Elements.{parametersOf}
-use Rattle.sha256.proofs.Feed.{fed-first}
+use Rattle.layout.proofs.Rounds.{length-audited}
 use Rattle.output.specs.Written.{written}
 use Rattle.output.proofs.Laws.{more}
-use Rattle.jobs.specs.Records.{matrixOf}
-use Rattle.ballots.proofs.Pages.{pairs-back}
-use Rattle.rules.proofs.Sizes.{cells}
-use Rattle.ballots.proofs.Records.{ballot-joined, proofs-start}
+use Rattle.ballots.proofs.Records.{length-body, ballot-audited, ballot-other}
 use borrow.Author.Needs.{needs}
 use Rattle.ballots.proofs.ballot.write_ballot.Statement.{statement}
 use Rattle.ballots.proofs.ballot.write_ballot.Tie as tie
 
--- where the matrix was put on the page, from where the label is fed, and the start
-abbrev paged : tie.After-update → tie.After-put-matrix
-paged c = c .before .before .before .before .before .before .before .before .before
+abbrev start : tie.After-wide → tie.Start
+start c = c .before .before .before .before .before .before .before .before
 
-abbrev start : tie.After-put-matrix → tie.Start
-start c = c .before .before .before .before .before .before .before
-
-few : (c : tie.After-put-matrix) → let b = start c .args .b in b .n * b .n ≤ 64
-few c = cells (start c .args .b .n) (start c .pre .0 .2)
-
-write-proofs-requires : tie.Need-write-proofs-requires
-write-proofs-requires c κs =
-    let u = c .before .before in
-    let s = start (paged u) in
-    let p = s .pre .0 in
-    let page = paged u .put-matrix .ensures in
-    ((p .0, p .1, p .2, simp (length-take, length-drop) (omega (arith, p .3, u .before .before, u .before .before .before)), omega (arith, page .0)), (s .pre .1, page .1))
+write-audit-requires : tie.Need-write-audit-requires
+write-audit-requires c κs =
+    let w = c .before .before .before in
+    let s = start w in
+    let p = s .pre in
+    let b = s .args .b in
+    let long = length-audited (b .n) (b .kind) (sym (w .wide .ensures) ∙ c .before .before .if1 .left) in
+    (p .0 .2, simp (length-take, length-drop) (omega (arith, long, p .0 .3, c .before .counted-length .ensures .0, w .before, w .before .before)), omega (arith, p .1 .near), omega (arith, p .1 .enough))
 
 returns : tie.Need-returns
 returns c =
-    let u = c .before .before .before .before .before in
-    let s = start (paged u) in
-    let f = s .args in
+    let w = c .before in
+    let f = start w .args in
+    w .before .before .before .write-body .ensures
+    ∙ ap (λ (x : List ℕ). written x (now (f .out))) (ballot-other (now (f .label)) (parametersOf (f .g .group)) (f .b .n) (f .b .number) (λ k. getD (f .b .list) k 0) (now (f .draws)) (f .b .from) (f .b .kind) (λ e. c .if1 .taken (w .wide .ensures ∙ e)))
+
+returns-2 : tie.Need-returns-2
+returns-2 c =
+    let t = c .before .before .before .before in
+    let w = t .before .before in
+    let f = start w .args in
     let g = parametersOf (f .g .group) in
     let list : ℕ → ℕ = λ k. getD (f .b .list) k 0 in
-    let fed = fed-first _ _ (now (f .label)) (u .before .new .ensures) (u .update .ensures) in
-    let page = paged u .put-matrix in
-    let e = pairs-back (page .last .0) 0 (f .b .n) (f .b .n) (4 + 8 * (f .b .n * f .b .n) - 4) (matrixOf g (f .b .n) list (now (f .draws)) (f .b .from)) (omega arith) (page .ensures .1) in
-    more _ _ _ _ _ _ (proofs-start (now (f .label)) g (f .b .n) (f .b .number) list (now (f .draws)) (f .b .from) _ e) (u .before .before .before .before .put-front .ensures) (c .before .before .write-proofs .ensures _ fed)
-    ∙ ap (λ (x : List ℕ). written x (now (f .out))) (ballot-joined (now (f .label)) g (f .b .n) (f .b .number) list (now (f .draws)) (f .b .from) _ e)
+    more _ _ _ _ _ _ (length-body (now (f .label)) g (f .b .n) (f .b .number) list (now (f .draws)) (f .b .from) (f .b .kind) ∙ sym (t .counted-length .ensures .0)) (w .before .before .before .write-body .ensures) (c .before .before .write-audit .ensures)
+    ∙ ap (λ (x : List ℕ). written x (now (f .out))) (ballot-audited (now (f .label)) g (f .b .n) (f .b .number) list (now (f .draws)) (f .b .from) (f .b .kind) (sym (w .wide .ensures) ∙ t .before .if1 .left))
 
 pub write-ballot-spec : {M : Type 1} → statement M
-write-ballot-spec = tie.close (tie.spec (λ c. search needs)
-    (λ c κs. let s = c .before .before .before .before .before .before in let p = s .pre .0 in (p .0 .p-pos, p .1, p .2, omega (arith, s .pre .1 .near), omega (arith, s .pre .1 .enough), search needs))
-    (λ c. omega (arith, few (c .before))) (λ c. omega (arith, few (c .before))) (λ c. omega (arith, few (c .before))) (λ c. omega arith)
-    (λ c. omega (arith, c .before .before .before .put-matrix .ensures .0)) (λ c. omega (arith, few (c .before .before .before), c .before .before .before .put-matrix .ensures .0))
-    (λ c κs. simp (length-take, length-drop) (omega (arith, start (c .before .before .before .before) .pre .0 .3))) (λ c κs. search needs) (λ c κs. search needs)
-    (λ c. omega (arith, start (paged c) .pre .0 .3, c .before .before, c .before .before .before))
-    (λ c. omega (arith, start (paged c) .pre .0 .3, c .before .before, c .before .before .before))
-    (λ c. omega (arith, start (paged c) .pre .0 .3, c .before .before, c .before .before .before)) (λ c. search needs) write-proofs-requires (λ c. search needs)
-    returns)
+write-ballot-spec = tie.close (tie.spec (λ c κs. search needs) (λ c κs. search needs) (λ c. search needs) returns (λ c κs. search needs)
+    (λ c. search needs) (λ c. search needs) (λ c. search needs) write-audit-requires (λ c. search needs) returns-2)

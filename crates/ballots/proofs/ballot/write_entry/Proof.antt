@@ -58,7 +58,7 @@ returns c m fed =
 
 pub write-entry-spec : {M : Type 1} → statement M
 write-entry-spec = tie.close (tie.spec (λ c. omega (arith, c .before .before .before .before .pre .1 .0 .near)) (λ c. search needs) (λ c. search needs)
-    opened-requires (λ c. omega (arith, near c)) (λ c. omega (arith, near c)) (λ c. search needs) (λ c. omega (arith, near c)) (λ c. omega (arith, near c))
+    opened-requires (λ c. omega (arith, near c)) (λ c. search needs) (λ c. omega (arith, near c)) (λ c. omega (arith, near c))
     (λ c. omega (arith, near c)) (λ c. omega (arith, near c)) (λ c. omega (arith, near c))
     (λ c. omega (arith, near (c .before), c .before .before .before .before .before .before .pre .1 .0 .enough)) (λ c κs. search needs) (λ c. search needs) make-requires
     (λ c. search needs) returns)

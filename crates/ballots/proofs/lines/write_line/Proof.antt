@@ -9,13 +9,12 @@ use Rattle.group.specs.Elements.{parametersOf}
 use Rattle.rules.specs.Ballot.{ballotContext}
 use Rattle.statements.specs.declared.claims.Claim.the-variants.{Line}
 use Rattle.statements.proofs.Lines.{line-within, line-fits}
-use Rattle.statements.proofs.Places.{line-stands}
 use Rattle.output.specs.Written.{written}
 use Rattle.ballots.specs.Parts.{lineSaid, lineOf, lineSum}
 use Rattle.ballots.proofs.Pages.{paged-same}
 use Rattle.ballots.proofs.Secrets.{line-sum}
 use Rattle.rules.proofs.Sizes.{cells}
-use Rattle.ballots.proofs.Entries.{spread-part, planned-line, line-is, line-says}
+use Rattle.ballots.proofs.Entries.{spread-part, planned-line, line-ready, line-is, line-says}
 use borrow.Author.Needs.{needs}
 use Rattle.ballots.proofs.lines.write_line.Statement.{statement}
 use Rattle.ballots.proofs.lines.write_line.Tie as tie
@@ -50,7 +49,7 @@ make-requires c κs =
       (
         p .0,
         planned-line g (now (f .page)) _ _ (now (f .draws)) _
-            (λ l i. rw (line .ensures .0, line .ensures .1) (line-stands (now (f .page)) g (f .b .n) 0 _ (omega (arith, p .5, fits w)) l i (f .t) (p .3)))
+            (λ l i. rw (line .ensures .0, line .ensures .1) (line-ready g (f .b .n) (now (f .page)) _ (omega (arith, p .5, fits w)) l i (f .t) (p .3)))
             (spread-part (f .g .group .q) (now (f .draws)) (f .b .from) _ _ 1 (s .pre .1 .0) (omega (arith, p))),
       ),
       omega (arith, p .4),
@@ -69,7 +68,7 @@ returns c m fed =
     let context = ballotContext (f .b .number) (f .b .n * f .b .n + f .t) in
     c .before .before .make .ensures m context (fed-more _ m fed _ _ (c .before .before .before .before .before .feed-context .ensures))
     ∙ ap (λ (w : List ℕ). written w (now (f .out)))
-    (line-is (Line (4 + 8 * line .result .start) (8 * line .result .stride) (f .b .n)) m context g _
+    (line-is (Line (8 * line .result .start) (8 * line .result .stride) (f .b .n)) m context g _
     (lineSaid m g (f .b .n) (f .b .number) list (now (f .draws)) (f .b .from) (f .t)) _ (lineSum (now (f .draws)) (f .b .from) (f .b .n) (f .t)) (now (f .draws)) _
     (rw (line .ensures .0, line .ensures .1) (line-says g (f .b .n) (f .b .number) list (now (f .page)) (now (f .draws)) m (f .b .from) (f .t) (p .3)
     (paged-same g (f .b .n) list (now (f .draws)) (f .b .from) (now (f .page)) 0 (f .b .n) (p .0 .p-pos) (omega (arith, s .good)) (s .pre .1 .1))))
@@ -79,7 +78,7 @@ returns c m fed =
 pub write-line-spec : {M : Type 1} → statement M
 write-line-spec = tie.close (tie.spec (λ c κs. let s = c .before .before .before in (s .pre .0 .3, omega (arith, cells (s .args .b .n) (s .pre .0 .2))))
     (λ c. omega (arith, fits (c .before), c .before .before .before .before .before .pre .1 .0 .near)) sum-of-requires
-    (λ c. omega (arith, fits (c .before .before .before))) (λ c. omega (arith, fits (c .before .before .before)))
+    (λ c. omega (arith, fits (c .before .before .before)))
     (λ c. omega (arith, fits (c .before .before .before .before))) (λ c. omega (arith, fits (c .before .before .before .before)))
     (λ c. omega (arith, fits (c .before .before .before .before)))
     (λ c. omega (arith, fits (c .before .before .before .before), c .before .before .before .before .before .before .before .before .pre .1 .0 .near))

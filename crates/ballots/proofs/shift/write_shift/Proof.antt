@@ -40,8 +40,8 @@ returns c =
     let g = parametersOf (f .g .group) in
     let fed = fed-first _ _ (now (f .label)) (u .before .new .ensures) (u .update .ensures) in
     let page = paged u .put-matrices in
-    let e = pairs-back (page .last .0) 512 (f .s .rows) (f .s .n) (516 + 8 * (f .s .rows * f .s .n) - 516) (newMatrix g (f .s) (now (f .draws))) (omega arith) (page .ensures .2) in
-    more _ _ _ _ _ _ (shift-start g (f .s) (now (f .draws)) (s .pre .0 .1) _ e) (u .before .before .before .before .put-front .ensures) (c .before .before .write-shift-proof .ensures _ fed)
+    let e = pairs-back (page .last .0) 512 (f .s .rows) (f .s .n) (512 + 8 * (f .s .rows * f .s .n) - 512) (newMatrix g (f .s) (now (f .draws))) (omega arith) (page .ensures .2) in
+    more _ _ _ _ _ _ (shift-start g (f .s) (now (f .draws)) (s .pre .0 .1) _ e) (u .before .before .before .before .put-shift-front .ensures) (c .before .before .write-shift-proof .ensures _ fed)
     ∙ ap (λ (x : List ℕ). written x (now (f .out))) (shift-joined g (f .s) (now (f .draws)) (s .pre .0 .1) (now (f .label)) _ e)
 
 pub write-shift-spec : {M : Type 1} → statement M

@@ -46,7 +46,7 @@ proof-good-requires c κs =
         omega arith,
         λ l i hl hi.
             rw (line .line-of .ensures .0, line .line-of .ensures .1)
-            (line-stands (now (a .board)) (parametersOf (a .h .setup .group)) (a .h .n) (a .at) [] (omega arith) l i (line .before .before .before .loop .t) (omega arith)),
+            (line-stands (now (a .board)) (parametersOf (a .h .setup .group)) (a .h .n) (a .at + 5) [] (omega arith) l i (line .before .before .before .loop .t) (omega arith)),
       ),
     )
 
@@ -61,8 +61,8 @@ checked c =
     let t = loop .loop .t in
     let context = ballotContext (number2 (now (a .board)) (a .at + 2)) (a .h .n * a .h .n + t) in
     c .proof-good .ensures context (rw (← loop .before .number2 .ensures) (fed-more _ _ (loop .before .before .labelled .ensures) _ _ (line .before .feed-context .ensures)))
-    ∙ ap (λ (f : ℕ → ℕ → Statement). proofAt (now (a .board)) (a .h) context (a .at + 4 + 40 * (a .h .n * a .h .n) + 16 * t) 1 1 f)
-    (rw (line .line-of .ensures .0, line .line-of .ensures .1) (line-claimed (now (a .board)) (parametersOf (a .h .setup .group)) (a .h .n) (a .at) t))
+    ∙ ap (λ (f : ℕ → ℕ → Statement). proofAt (now (a .board)) (a .h) context (a .at + 5 + 40 * (a .h .n * a .h .n) + 16 * t) 1 1 f)
+    (rw (line .line-of .ensures .0, line .line-of .ensures .1) (line-claimed (now (a .board)) (parametersOf (a .h .setup .group)) (a .h .n) (a .at + 5) t))
 
 returns : tie.Need-returns Inv-loop μ-loop
 returns c =

@@ -56,4 +56,4 @@ pub read-shift-spec : {M : Type 1} → statement M
 read-shift-spec =
     tie.close
     (tie.spec (λ c. search needs) (λ c κs. search needs) (λ c κs. search needs) (λ c. search needs) returns (λ c. search needs) (λ c. search needs)
-    (λ c. search needs) (λ c. search needs) fields-good-requires returns-2 (λ c. search needs) shift-proof-requires returns-3 (λ c. search needs) returns-4)
+    (λ c. search needs) (λ c. search needs) (λ c. search needs) fields-good-requires returns-2 (λ c. search needs) shift-proof-requires returns-3 (λ c. search needs) returns-4)

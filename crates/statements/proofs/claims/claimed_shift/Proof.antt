@@ -13,7 +13,7 @@ use Rattle.statements.proofs.claims.claimed_shift.Tie as tie
 
 -- the pair in row l and column a is within the slice
 pair-fits : (c : tie.Then1) →
-    let a = c .before .before .before .args in (a .m .before + 4 + 8 * (a .l * a .m .n + a .m .a) + 8 ≤ length (now (a .s))) × (length (now (a .s)) < 2 ^ 64)
+    let a = c .before .before .before .args in (a .m .before + 8 * (a .l * a .m .n + a .m .a) + 8 ≤ length (now (a .s))) × (length (now (a .s)) < 2 ^ 64)
 pair-fits c =
     let a = c .before .before .before .args in
     (omega (arith, row-below (a .m .rows + 1) (a .m .n) (a .l) (omega arith)), omega (arith, c .before .before .before .good))
@@ -26,7 +26,7 @@ returns c =
 
 -- row l of the matrix before is within the slice
 row-fits : (c : tie.Then2) →
-    let a = c .before .before .before .before .args in (a .m .before + 4 + 8 * (a .l * a .m .n + a .m .n) ≤ length (now (a .s))) ×
+    let a = c .before .before .before .before .args in (a .m .before + 8 * (a .l * a .m .n + a .m .n) ≤ length (now (a .s))) ×
     (length (now (a .s)) < 2 ^ 64)
 row-fits c =
     let a = c .before .before .before .before .args in
@@ -62,13 +62,13 @@ returns-3 c =
     (inverted (2 * from) (omega arith)) (inverted (2 * from + 1) (omega arith))
 
 pub claimed-shift-spec : {M : Type 1} → statement M
-claimed-shift-spec = tie.close (tie.spec (λ c. omega (arith, pair-fits c)) (λ c. omega (arith, pair-fits c)) (λ c. omega (arith, pair-fits (c .before)))
-    (λ c. omega (arith, pair-fits (c .before))) (λ c. omega (arith, pair-fits (c .before)))
-    (λ c κs. (c .before .before .before .before .pre .0, pair-fits (c .before) .0)) returns (λ c. search needs) (λ c. omega (arith, row-fits c))
+claimed-shift-spec = tie.close (tie.spec (λ c. omega (arith, pair-fits c)) (λ c. omega (arith, pair-fits (c .before))) (λ c. omega (arith, pair-fits (c .before)))
+    (λ c. omega (arith, pair-fits (c .before)))
+    (λ c κs. (c .before .before .before .before .pre .0, pair-fits (c .before) .0)) returns (λ c. omega (arith, row-fits c))
     (λ c. omega (arith, row-fits c)) (λ c. omega (arith, row-fits c))
     (λ c κs. (c .before .before .before .before .pre .0 .p-pos, λ j h. omega (arith, row-fits c))) (λ c. omega (arith, row-fits (c .before)))
     (λ c κs. (c .before .before .before .before .before .pre .0 .p-pos, λ j h. omega (arith, row-fits (c .before)))) returns-2 (λ c. search needs)
-    (λ c κs. search needs) (λ c. search needs) (λ c. search needs) (λ c. search needs) (λ c κs. search needs) (λ c. search needs) (λ c κs. search needs)
+    (λ c κs. search needs) (λ c. search needs) (λ c. search needs) (λ c κs. search needs) (λ c. search needs) (λ c κs. search needs)
     (λ c. omega (arith, source-fits (c .before .before))) (λ c. omega (arith, source-fits (c .before .before)))
     (λ c. omega (arith, source-fits (c .before .before .before))) (λ c. omega (arith, source-fits (c .before .before .before)))
     (λ c. omega (arith, source-fits (c .before .before .before))) (λ c. omega (arith, source-fits (c .before .before .before)))

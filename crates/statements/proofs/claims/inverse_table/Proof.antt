@@ -27,7 +27,7 @@ loop-again c =
       record {
         long = simp length-set (w .long);
         inverted =
-            filled-more (λ v. powMod (a .p) (number4 (now (a .s)) (a .at + 4 + 4 * v)) (a .q - 1)) (l .table) (l .u) (c .pow .result .0) (omega arith)
+            filled-more (λ v. powMod (a .p) (number4 (now (a .s)) (a .at + 4 * v)) (a .q - 1)) (l .table) (l .u) (c .pow .result .0) (omega arith)
             (rw (← c .before .as-element .ensures) (c .pow .ensures)) (w .inverted);
         zeros = λ v h. getD-set-other (l .table) (l .u) v (c .pow .result .0) 0 (λ e. omega arith) ∙ w .zeros v (omega arith);
       },
@@ -36,6 +36,5 @@ loop-again c =
 pub inverse-table-spec : {M : Type 1} → statement M
 inverse-table-spec = tie.close (tie.spec Inv-loop μ-loop (λ c. search needs)
     (λ c. (omega arith, record { long = refl; inverted = λ v h. absurd (omega arith); zeros = λ v h. zero-everywhere 128 v }))
-    (λ c. omega (arith, c .before .before .before .good)) (λ c. omega (arith, c .before .before .before .good))
-    (λ c. omega (arith, c .before .before .before .good)) (λ c κs. omega arith) (λ c κs. search needs) (λ c. omega arith) (λ c. omega arith) (λ c. omega arith)
+    (λ c. omega (arith, c .before .before .before .good)) (λ c. omega (arith, c .before .before .before .good)) (λ c κs. omega arith) (λ c κs. search needs) (λ c. omega arith) (λ c. omega arith) (λ c. omega arith)
     (λ c. omega arith) loop-again (λ c. let l = c .before .loop in let e : l .u ≡ c .before .before .before .args .words = omega arith in rw (← e) (l .inv .1)))

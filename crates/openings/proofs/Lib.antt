@@ -1,0 +1,3 @@
+-- Laws of what is shown.
+pub mod Rankings
+pub mod Matrices

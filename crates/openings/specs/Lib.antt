@@ -1,0 +1,2 @@
+-- What pairs open to, as the code goes through them.
+pub mod Shown
