@@ -1,7 +1,7 @@
 """forged.py - tiny groups, where a false proof is met after some tries.
 
 By the rules these boards are accepted; their matrices open to no rankings.  They show how the count
-must treat counts that do not sum to K and counts of processes gone out."""
+must treat counts that do not sum to the number of counted ballots and counts of processes gone out."""
 from craft import strike
 
 from .election import P23, election, join
