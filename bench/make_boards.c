@@ -90,16 +90,19 @@ static size_t board_length(const struct size *size)
     return length;
 }
 
-/* Marsaglia's xorshift of 64 bits (13, 7, 17), each number brought into 1 to Q - 1. */
+/*
+ * Lehmer's generator: the powers of ROOT modulo Q, a primitive root, since its powers to (Q - 1) / f
+ * are not 1 for the prime factors f of Q - 1: 2, 7, 2341 and 16381. Each number from 1 to Q - 1 comes
+ * once before any comes again, so no two of the draws are equal, and no matrix uses an x twice.
+ */
 static void fill_draws(uint32_t *draws, size_t count)
 {
-    uint64_t x = 88172645463325252;
+    const uint64_t ROOT = 62089911;
+    uint64_t x = 1;
 
     for (size_t i = 0; i < count; i++) {
-        x ^= x << 13;
-        x ^= x >> 7;
-        x ^= x << 17;
-        draws[i] = (uint32_t)(1 + x % (Q - 1));
+        x = x * ROOT % Q;
+        draws[i] = (uint32_t)x;
     }
 }
 

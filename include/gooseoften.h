@@ -41,7 +41,8 @@ enum gooseoften_refusal {
     GOOSEOFTEN_KIND = 17,        /* a ballot's kind is neither counted nor audited; of a job, or the
                                     kinds are not one a ballot */
     GOOSEOFTEN_OPENING = 18,     /* an audited ballot does not open to what it shows */
-    GOOSEOFTEN_NONE_COUNTED = 19 /* no ballot is counted */
+    GOOSEOFTEN_NONE_COUNTED = 19, /* no ballot is counted */
+    GOOSEOFTEN_REPEAT = 20       /* of a job: two x of a matrix are equal */
 };
 
 static inline size_t gooseoften_refusal_number(size_t code)
@@ -76,7 +77,9 @@ size_t gooseoften_check(const uint8_t *board, size_t board_length,
  * counted, 1 audited; at least one is counted. An audited ballot is opened instead of counted: its
  * record shows its ranking and the exponents of its pairs, which are draws. They are public then: the
  * caller sees to it that none of them is drawn for a counted ballot, too. Draws are used in the order
- * of the board; spare ones are ignored. */
+ * of the board; spare ones are ignored. That the exponents of one matrix differ need not be seen to:
+ * a job in which two are equal is refused (20), and so is every job where q - 1 is below n * n. Across
+ * matrices an exponent may repeat. */
 size_t gooseoften_write(size_t n, size_t k, uint32_t p, uint32_t q, uint32_t g0, uint8_t counter,
                         const uint8_t *label, size_t label_length,
                         const uint8_t *rankings, size_t rankings_length,

@@ -218,7 +218,13 @@ def sound(cases, rng):
         base = Base(rng, 'sound.n%d.k%d.q%d' % (n, len(lists), q), n, lists,
                     (p, q, g0 or gen.elements_g0(rng, p, q)))
         cases.add('%s.rounds%d' % (base.name, base.rounds), base.board, base.accepted, 'sound',
-                  *['ties'] * (base.rounds > 1))
+                  *['ties'] * (base.rounds > 1), *['repeats'] * (q - 1 < n * n))
+
+
+def repeats(cases, rng):
+    """All draws 1, a ballot audited: the writer alone refuses that."""
+    base = Base(rng, 'repeats', 2, [[1, 2], [2, 1], [2, 1]], HOUSE, (2,), 'ones')
+    cases.add('repeats', base.board, ('accepted', 1, [], 1), 'repeats', 'sound', 'ties')
 
 
 def large(cases, rng):
@@ -372,4 +378,5 @@ def boards():
     audit_cases.boards(cases, pool, random.Random(4))
     sound(cases, rng)
     large(cases, rng)
+    repeats(cases, random.Random(5))
     return cases

@@ -79,6 +79,8 @@ BOARDS = {
     'order': 'records left out, twice, exchanged',
     'orders': 'p and q: composites that weak tests pass, bounds',
     'edges': 'allowed at the edge: 0 for x, nonce, e, r; least and largest groups',
+    'repeats': 'allowed: an x twice in a matrix, in groups with too few numbers and with draws all '
+               'equal',
     'sound': 'sound boards of 2 to 8 processes',
     'K1000': 'K = 1,000 with n = 2',
     'n8': 'n = 8 in 7 rounds',
@@ -98,6 +100,19 @@ JOBS = {
     '19': 'refusal 19: nothing counted',
     '14.few': 'refusal 14: draws too few',
     '14': 'refusal 14: a draw of 0, of q or more',
+    '20': 'refusal 20: an x twice in a matrix, by the matrix',
+    '20.pair': 'refusal 20: an x twice in a matrix, the first two of its x, others, the last two',
+    '20.ends': 'refusal 20: the first x of a matrix and the last',
+    '20.row': 'refusal 20: two x of a row',
+    '20.column': 'refusal 20: two x of a column',
+    '20.neither': 'refusal 20: two x of neither, neighbours among them',
+    '20.audited': 'refusal 20: in an audited ballot',
+    '20.behind': 'refusal 20: in a ballot or a shift behind an audited ballot',
+    '20.shift': 'refusal 20: in a shift, by its round',
+    '20.group': 'refusal 20: fewer numbers from 1 to q - 1 than x in a ballot, the largest such q',
+    '20.same': 'refusal 20: draws all 1, all q - 1',
+    '20.close': 'refusal 20: an x twice, with others of its low byte between',
+    '20.order': 'a repeat and another fault: 14 before 20, 20 before 15',
     '15': 'refusal 15: room for nothing, for the header, for all but a byte',
     'two': 'two faults: the earlier number',
     'audited': 'written: one ballot audited',
@@ -108,7 +123,13 @@ JOBS = {
     'room': 'written: room to spare, kept as it was',
     'n': 'written: 2 to 8 processes',
     'groups': 'written: least, tiny and large groups; counters 0 and 255',
-    'draws': 'written: draws all 1, all q - 1',
+    'draws': 'written: x from 1 up, from q - 1 down, from both ends, the other draws all 1, all q - 1, '
+             'both',
+    'enough': 'written: the least q with as many numbers from 1 to q - 1 as x in a ballot',
+    'across': 'written: equal x in matrices of one ballot, of one round, of others, in all',
+    'within': 'written: equal draws of a record or of two, at most one of them an x',
+    'beyond': 'written: spare draws that repeat an x, or each other',
+    'close': 'written: x that differ in one byte alone, 64 with one low byte',
     'ties': 'written: ties',
     # of rankings no more than two can tie for the winner
     **{key: 'written: ' + text for key, text in TIES.items() if key != 'winner.narrowed'},
@@ -154,7 +175,8 @@ PLACED = {key: PLACES for key in BOARDS if key[0].isdigit() or key.startswith('m
 PLACED['3'] = PLACED['4'] = ('first', 'last')
 PLACED['audited'] = PLACES
 del PLACED['18.forged'], PLACED['19']
-JOB_PLACED = {key: PLACES for key in ('5', '13', '14', '15', '17', 'audited')}
+JOB_PLACED = {key: PLACES for key in ('5', '13', '14', '15', '17', '20', '20.pair', '20.audited',
+                                      '20.shift', 'audited')}
 JOB_PLACED['3'] = JOB_PLACED['4'] = ('first', 'last')
 FIND_PLACED = {key: PLACES for key in ('1', '2', '5', '6', '15', '16.byte', '16.pair', '17', 'found',
                                        'place', 'audited')}

@@ -1,47 +1,14 @@
-"""Writer jobs for the test program `job_cases`, filed under what they cover (covered.py)."""
+"""Writer jobs for the test program `job_cases`, filed under what they cover (covered.py); those with
+an x twice in a matrix, or with equal draws elsewhere, are in repeat_cases.py."""
 import itertools
 import random
 
 import boardref as ref
 import gen
+import repeat_cases
 from covered import BIG, JOB_PLACED, JOBS, PLACES, Cases, place
 from elections import WORKED
-
-HOUSE = gen.HOUSE
-NAMES = ('n', 'K', 'p', 'q', 'g0', 'counter', 'label', 'rankings', 'kinds', 'draws', 'out_len')
-CYCLE = [[1, 2, 3], [2, 3, 1], [3, 1, 2]]
-
-
-class Job:
-    """A sound job; `but` gives it with some parts changed.  audited: the numbers of the audited
-    ballots."""
-
-    def __init__(self, rng, n, lists, group, draws='random', counter=None, audited=()):
-        p, q, g0 = group
-        g0 = g0 or gen.elements_g0(rng, p, q)
-        label, found = gen.label_counter(rng, p, q, g0)
-        while counter is not None and not ref.g1_holds(g0, ref.make_g1(p, q, g0, counter, label)):
-            label = rng.randbytes(32)
-        self.n, self.K, self.q = n, len(lists), q
-        kinds = gen.audited_at(self.K, *audited)
-        self.rounds, _, self.outs, self.winner = ref.plain_count(n, gen.counted(lists, kinds))
-        self.needed = ref.draws_needed(n, kinds, self.rounds)
-        self.length = ref.board_length(n, kinds, self.rounds)
-        self.parts = dict(zip(NAMES, (
-            n, self.K, p, q, g0, found if counter is None else counter, label,
-            bytes(x for r in lists for x in r), kinds,
-            tuple(gen.make_draws(rng, q, self.needed, draws)), self.length)))
-
-    def but(self, **changes):
-        return tuple({**self.parts, **changes}[name] for name in NAMES)
-
-    def written(self):
-        return ('written', self.length, self.rounds, self.outs, self.winner)
-
-
-def put(items, place, value):
-    """bytes or a tuple with one item changed"""
-    return items[:place] + type(items)([value]) + items[place + 1:]
+from sound_jobs import CYCLE, HOUSE, Job, put
 
 
 def refused(cases, name, job):
@@ -98,15 +65,15 @@ def weak_generators(cases, rng):
 
 def two_faults(cases, job):
     """For every two refusals a job with both faults; then one with all."""
-    rankings = job.parts['rankings']
+    rankings, repeat = job.parts['rankings'], job.repeat(0, 0, 1)
     # in the order of the tests
     faults = {3: {'n': 1}, 4: {'q': 4}, 5: {'label': bytes(31)}, 13: {'rankings': put(rankings, 4, 0)},
               17: {'kinds': b'\0\1\2'}, 19: {'kinds': b'\1\1\1'},
-              14: {'draws': job.parts['draws'][:-1]}, 15: {'out_len': job.length - 1}}
+              14: {'draws': job.parts['draws'][:-1]}, 20: {'draws': repeat},
+              15: {'out_len': job.length - 1}}
+    one_part = {(17, 19): {'kinds': b'\1\2\1'}, (14, 20): {'draws': repeat[:-1]}}
     for first, second in itertools.combinations(faults, 2):
-        both = {**faults[second], **faults[first]}
-        if (first, second) == (17, 19):
-            both = {'kinds': b'\1\2\1'}
+        both = one_part.get((first, second), {**faults[second], **faults[first]})
         cases.add('three.faults-%d-and-%d' % (first, second), job.but(**both),
                   ('refused', first, 2 if first == 13 else 0), 'two')
     every = {part: value for fault in faults.values() for part, value in fault.items()}
@@ -147,7 +114,7 @@ def audited(cases, rng):
     """Some ballots audited."""
     for n, lists, group, numbers, covers in (
             (2, [[1, 2], [2, 1]], HOUSE, (1,), ['audited first', 'audited.most']),
-            (2, [[1, 2], [2, 1]], (7, 3, 2), (2,), ['audited last', 'audited.most', 'groups']),
+            (2, [[1, 2], [2, 1]], (11, 5, 4), (2,), ['audited last', 'audited.most', 'groups']),
             (3, CYCLE, HOUSE, (1,), ['audited first', 'ties']),
             (3, CYCLE, (23, 11, 2), (2,), ['audited middle', 'ties', 'groups']),
             (3, CYCLE, HOUSE, (3,), ['audited last', 'ties']),
@@ -202,29 +169,32 @@ def thousand(cases, rng):
 
 def written(cases, rng):
     for n, lists, group, draws, counter, covers in (
-            (2, [[2, 1]], (7, 3, 2), 'random', 0, ['n', 'groups']),
-            (2, [[1, 2], [2, 1]], (7, 3, 4), 'tops', 255, ['n', 'groups', 'ties', 'draws']),
-            (3, CYCLE, (23, 11, 2), 'ones', None, ['n', 'groups', 'ties', 'draws']),
+            (2, [[2, 1]], (11, 5, 4), 'random', 0, ['n', 'groups', 'enough']),
+            (2, [[1, 2], [2, 1]], (11, 5, 4), 'tops', 255, ['n', 'groups', 'ties', 'draws', 'enough']),
+            (3, CYCLE, (23, 11, 2), 'ones', None, ['n', 'groups', 'ties', 'draws', 'enough']),
             (3, CYCLE, HOUSE, 'tops', 255, ['n', 'groups', 'ties', 'draws']),
-            (3, [[3, 1, 2]], (2147483647, 7, None), 'edges', 0, ['n', 'groups']),
+            (3, [[3, 1, 2]], (2147483647, 11, None), 'edges', 0, ['n', 'groups', 'draws', 'enough']),
             (3, [[1, 2, 3], [1, 3, 2], [2, 1, 3], [3, 2, 1]], HOUSE, 'random', 1, ['n', 'ties']),
-            (4, [[1, 2, 3, 4], [2, 1, 4, 3], [3, 4, 1, 2], [4, 3, 2, 1]], (11, 5, 4), 'random', None,
-             ['n', 'groups', 'ties']),
+            (4, [[1, 2, 3, 4], [2, 1, 4, 3], [3, 4, 1, 2], [4, 3, 2, 1]], (103, 17, None), 'random',
+             None, ['n', 'groups', 'ties', 'enough']),
             (4, [[4, 3, 2, 1], [3, 4, 1, 2], [4, 1, 2, 3], [1, 2, 3, 4], [2, 4, 3, 1]], HOUSE,
              'random', None, ['n']),
-            (4, gen.rankings_of(rng, 4, 10, 'random'), (23, 11, 2), 'random', None, ['n', 'groups']),
+            (4, gen.rankings_of(rng, 4, 10, 'random'), (47, 23, None), 'random', None,
+             ['n', 'groups']),
             (5, gen.rankings_of(rng, 5, 5, 'cycle'), (2147483647, 331, None), 'edges', None,
-             ['n', 'groups', 'ties']),
-            (5, [[5, 1, 2, 3, 4]] * 3, (53, 13, None), 'random', None, ['n', 'groups']),
-            (6, gen.rankings_of(rng, 6, 4, 'late'), HOUSE, 'random', None, ['n']),
-            (7, gen.rankings_of(rng, 7, 3, 'random'), (2147483647, 31, None), 'random', None, ['n']),
+             ['n', 'groups', 'ties', 'draws']),
+            (5, [[5, 1, 2, 3, 4]] * 3, (59, 29, None), 'random', None, ['n', 'groups', 'enough']),
+            (6, gen.rankings_of(rng, 6, 4, 'late'), (149, 37, None), 'random', None,
+             ['n', 'groups', 'enough']),
+            (7, gen.rankings_of(rng, 7, 3, 'random'), (2147483647, 151, None), 'random', None, ['n']),
             (8, [[8, 7, 6, 5, 4, 3, 2, 1]], HOUSE, 'random', None, ['n']),
             (8, [list(range(1, 9)), list(range(8, 0, -1))], HOUSE, 'random', None,
              ['n', 'n8', 'ties']),
-            (8, [[2, 1, 3, 4, 5, 6, 7, 8], [1, 2, 3, 4, 5, 6, 7, 8]], (47, 23, None), 'tops', None,
-             ['n', 'n8', 'groups', 'ties', 'draws'])):
+            (8, [[2, 1, 3, 4, 5, 6, 7, 8], [1, 2, 3, 4, 5, 6, 7, 8]], (269, 67, None), 'tops', None,
+             ['n', 'n8', 'groups', 'ties', 'draws', 'enough'])):
         job = Job(rng, n, lists, group, draws, counter)
         assert 'n8' not in covers or job.rounds == 7
+        assert ('enough' in covers) == (job.q == gen.JUST_ENOUGH[n][1])
         room = rng.choice((0, 1, 7, 100))
         cases.add('written.n%d.k%d.q%d.rounds%d.%s' % (n, job.K, job.q, job.rounds, draws),
                   job.but(out_len=job.length + room), job.written(), *covers,
@@ -264,4 +234,5 @@ def jobs():
     ties(cases, rng)
     audited(cases, rng)
     audited_edges(cases, rng)
+    repeat_cases.jobs(cases, random.Random(3))
     return cases

@@ -88,7 +88,7 @@ def large_boards():
         label, counter = gen.label_counter(rng, p, q, g0)
         rankings = [c for ranking in gen.rankings_of(rng, n, K, 'cycle') for c in ranking]
         kinds = gen.audited_at(K, *audited)
-        draws = gen.make_draws(rng, q, ref.draws_needed(n, kinds, n - 1))
+        draws = gen.job_draws(rng, q, n, kinds, n - 1)
         board = ref.write(n, K, p, q, g0, counter, label, rankings, kinds, draws, 1 << 25)[1]
         assert len(board) > LIMIT, len(board)
         boards += [board, board[:-1], board + b'\0', board[:LIMIT + 1]]

@@ -109,10 +109,10 @@ def store(crate, files):
             f.write(data)
 
 
-def show(crate, cases, size):
-    print('%s: %d cases, %d bytes' % (crate, len(cases.items), size))
+def show(crate, count, size, rows):
+    print('%s: %d cases, %d bytes' % (crate, count, size))
     print('| covered | cases: first, middle, last place |\n|---|---|')
-    for text, numbers in cases.rows():
+    for text, numbers in rows:
         print('| %s | %s |' % (text, ', '.join('-' if x is None else str(x) for x in numbers)))
 
 
@@ -121,6 +121,7 @@ def main(check):
     boards = board_cases.boards()
     lists = (('cases', boards, board_case), ('job_cases', job_cases.jobs(), job_case),
              ('find_cases', find_cases.finds(), find_case))
+    rows = {crate: list(cases.rows()) for crate, cases, _ in lists}      # each has a case
     made = {crate: make(cases, one) for crate, cases, one in lists}
     made['boardcheck'] = sample(boards)
     for crate, data in made.items():
@@ -131,7 +132,7 @@ def main(check):
         else:
             store(crate, files)
     for crate, cases, _ in lists if not check else ():
-        show(crate, cases, len(made[crate][0]))
+        show(crate, len(cases.items), len(made[crate][0]), rows[crate])
     return comparison.status()
 
 

@@ -1,7 +1,8 @@
 #!/usr/bin/env python3
 """mutants.py - are the stored cases of the test programs `cases`, `find_cases` and `job_cases` sharp
 enough?  The mutants of a challenge's message are in message_mutants.py, of audited ballots in
-audit_mutants.py, of the walk for receipts in find_mutants.py.
+audit_mutants.py, of draws that repeat in repeat_mutants.py, of the walk for receipts in
+find_mutants.py.
 
   python3 tests/mutants.py
 
@@ -19,6 +20,7 @@ from stored import HERE
 import audit_mutants
 import find_mutants
 import message_mutants
+import repeat_mutants
 
 # the modules of the reference, each after those that it imports
 MODULES = ('board.sizes', 'board.group', 'board.proofs', 'board.count', 'board.plain_count',
@@ -238,11 +240,20 @@ def messages(kind):
             and any(word in question.case for word in words)]
 
 
-def jobs():
-    """The jobs of small boards and the one of the most ballots."""
+def asked(jobs):
     return [Question(job.name, 'write', (job.n, job.K, job.p, job.q, job.g0, job.counter, job.label,
-                                         job.rankings, job.kinds, job.draws, job.room))
-            for job in stored.jobs() if job.room < 3000 or job.name == 'thousand']
+                                         job.rankings, job.kinds, job.draws, job.room)) for job in jobs]
+
+
+def jobs():
+    """The jobs of small boards and the one of the most ballots, not made for draws that repeat."""
+    return asked(job for job in stored.jobs() if (job.room < 3000 or job.name == 'thousand')
+                 and not job.name.startswith('repeat.'))
+
+
+def repeats():
+    """The jobs made for draws that repeat, and those with two faults."""
+    return asked(job for job in stored.jobs() if job.name.startswith(('repeat.', 'three.faults-')))
 
 
 def finds():
@@ -298,8 +309,10 @@ def main():
                                      *[('checkers, messages beside, ' + kind, mutants, messages(kind))
                                        for kind, mutants in message_mutants.BESIDE.items()],
                                      ('checkers, audits', audit_mutants.CHECKERS, audits()),
+                                     ('checkers, repeats', repeat_mutants.CHECKERS, others()),
                                      ('writers, messages', message_mutants.WRITERS, jobs()),
                                      ('writers, audits', audit_mutants.WRITERS, jobs()),
+                                     ('writers, repeats', repeat_mutants.WRITERS, repeats()),
                                      ('finders', find_mutants.FINDERS, finds()),
                                      ('finders, audits', audit_mutants.FINDERS, finds())):
         some = survivors(texts, mutants, questions, right)

@@ -43,7 +43,7 @@ static void write_board(void)
     rankings[N] = 2; /* the second ballot ranks 2, 1, 3 and so on: nobody gets more than half */
     rankings[N + 1] = 1;
     for (size_t i = 0; i < DRAWS; i++) {
-        draws[i] = (uint32_t)(1 + i);
+        draws[i] = (uint32_t)(1 + i); /* no two are equal */
     }
     code = gooseoften_write(N, K, 2147483579, 1073741789, 4, 0, (const uint8_t *)label, 32, rankings,
                             sizeof rankings, kinds, sizeof kinds, draws, DRAWS, board, sizeof board,

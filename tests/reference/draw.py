@@ -33,6 +33,14 @@ FIXED = [(7, 3), (19, 3), (11, 5), (101, 5), (29, 7), (43, 7), (23, 11), (199, 1
          (2147483647, 11), (2147483647, 7), HOUSE[:2]]
 
 
+# (p, q) by n: the largest q with q - 1 < n^2, too few numbers for the x of a ballot's matrix, and the
+# least q with q - 1 >= n^2.  q - 1 = n^2 - 1 would need q = n^2, no prime; q - 1 = n^2 is there for
+# n = 2, 4 and 6.
+TOO_FEW = {2: (7, 3), 3: (29, 7), 4: (53, 13), 5: (47, 23), 6: (311, 31), 7: (283, 47), 8: (367, 61)}
+JUST_ENOUGH = {2: (11, 5), 3: (23, 11), 4: (103, 17), 5: (59, 29), 6: (149, 37), 7: (107, 53),
+               8: (269, 67)}
+
+
 def random_pq(rng, q_bits, p_bits):
     """q of about q_bits bits, p = kq+1 of about p_bits bits, p < 2^31."""
     while True:
@@ -120,6 +128,7 @@ def counted(lists, kinds):
 
 
 def make_draws(rng, q, count, style='random'):
+    """Any draws: a matrix may use an x twice."""
     if style == 'ones':
         return [1] * count
     if style == 'tops':
@@ -127,3 +136,33 @@ def make_draws(rng, q, count, style='random'):
     if style == 'edges':
         return [rng.choice((1, q - 1)) for _ in range(count)]
     return [rng.randrange(1, q) for _ in range(count)]
+
+
+def different(rng, q, count, style='random'):
+    """So many different numbers: from 1 up, from q - 1 down, from both ends, or any."""
+    if style == 'ones':
+        return list(range(1, count + 1))
+    if style == 'tops':
+        return list(range(q - 1, q - 1 - count, -1))
+    if style == 'edges':
+        return [q - 1 - i // 2 if i % 2 else 1 + i // 2 for i in range(count)]
+    return rng.sample(range(1, q), count)
+
+
+def job_draws(rng, q, n, kinds, rounds, style='random'):
+    """Draws of which no matrix uses an x twice, wherever there are as many numbers as it has x."""
+    draws = make_draws(rng, q, ref.draws_needed(n, kinds, rounds), style)
+    for place in ref.x_places(n, kinds, rounds):
+        count = len(draws[place])
+        if count <= q - 1:
+            draws[place] = different(rng, q, count, style)
+    return draws
+
+
+def board_of(job):
+    """What the writer makes of a job's draws below its tests: a matrix may use an x twice."""
+    n, p, q, g0 = job.n, job.p, job.q, job.g0
+    lists = [list(job.rankings[k * n:(k + 1) * n]) for k in range(job.K)]
+    group = ref.Group(p, q, g0, ref.make_g1(p, q, g0, job.counter, job.label), job.label)
+    return ref.write_board(group, n, job.counter, lists, job.kinds,
+                           ref.plain_count(n, counted(lists, job.kinds)), job.draws)

@@ -2,14 +2,14 @@
 """selftest.py [jobs] [seed]  - asserts 01's hand-tried cases and elections with equal counts worked
 by hand, thousands of random elections and jobs, every refusal number, what the proof claims mean (by
 brute-force logarithms in p = 23), the messages of challenges by hand and in a second way, audited
-ballots by hand and in a second way, and receipts that are found in a second way.  The folder
-selftests has them, by subject."""
+ballots by hand and in a second way, x that a matrix uses twice by hand and in a second way, and
+receipts that are found in a second way.  The folder selftests has them, by subject."""
 import sys
 import time
 
 sys.dont_write_bytecode = True
 
-from selftests import audits, counts, messages
+from selftests import audits, counts, messages, repeats
 from selftests.claims import claims_mean_what_they_say
 from selftests.hand import hand_cases
 from selftests.jobs import craft_and_write_agree, random_jobs, worked_jobs
@@ -25,13 +25,14 @@ def main(count, seed):
     worked_jobs()
     messages.bytes_by_hand()
     audits.by_hand()
+    repeats.by_hand()
     print('hand-tried cases hold')
     ties = counts.random_elections(4 * count, seed)
     counts.random_standings(4 * count, seed)
     print('%d random elections and as many standing counts: alike in three ways' % (4 * count))
     print('  earlier rounds decide who goes out in %d of the elections, who wins in %d' % ties)
     every_refusal()
-    print('refusals 1 to 12, 17 to 19 (checker) and 3, 4, 5, 13 to 15, 17, 19 (writer) are hit')
+    print('refusals 1 to 12, 17 to 19 (checker) and 3, 4, 5, 13 to 15, 17, 19, 20 (writer) are hit')
     claims_mean_what_they_say(seed)
     print('claims are true for the right lists and for no others')
     craft_and_write_agree()
@@ -43,9 +44,10 @@ def main(count, seed):
     seen = random_finds(count, seed)
     print('%d random boards: receipts found alike in two ways' % count)
     print('  answers:', dict(sorted(seen.items(), key=str)))
-    rounds_seen, refusals, audited = random_jobs(count, seed)
-    print('%d random jobs: all written, accepted, equal to the plain count; %d audited ballots show '
-          'what was given' % (count, audited))
+    rounds_seen, refusals, audited, refused = random_jobs(count, seed)
+    print('%d random jobs: their boards accepted, equal to the plain count; %d written, %d refused, on '
+          'whose boards a matrix has two equal Y; %d audited ballots show what was given'
+          % (count, count - refused, refused, audited))
     print('  (n, rounds):', dict(sorted(rounds_seen.items())))
     print('  answers after one bit flip:', dict(sorted(refusals.items(), key=str)))
     print('selftest passed in %.1f s' % (time.time() - start))

@@ -15,7 +15,7 @@ use Rattle.proving.specs.Plans.{DrawsBelow}
 use Rattle.ballots.specs.declared.shift.Shift.{Shift}
 use Rattle.ballots.specs.Parts.{Shifting, shiftOf}
 use Rattle.ballots.proofs.Entries.{spread-part}
-use Rattle.jobs.proofs.Draws.{draws-within, secrets-within, round-more}
+use Rattle.jobs.proofs.Draws.{draws-within, counted-within, round-more}
 use Rattle.jobs.specs.Records.{ballotBytes, shiftBytes}
 use Rattle.plain.proofs.Lists.{padded-at}
 use Rattle.boards.specs.Parts.{drawsBefore}
@@ -66,7 +66,7 @@ module _ (job : Job) (g : Parameters) (k j : ℕ) (before : List ℕ) (a : ℕ) 
       let is = eq-eqb (kindOf job k) 0 counted in
       let here = draws-within (job .n) (kindOf job) (job .K) (suc j) k low in
       let there = draws-within (job .n) (kindOf job) (job .K) j k low in
-      let inner = secrets-within (job .n) (kindOf job k) j is in
+      let inner = counted-within (job .n) (kindOf job k) j is in
       let more = round-more (job .n) (kindOf job) (job .K) (suc j) in
       let rows : s .rows + 1 ≡ job .n - j = omega arith in
       let cells : (s .rows + 1) * s .n ≡ (job .n - j) * job .n = rw (rows, en) in

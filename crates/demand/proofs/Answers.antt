@@ -19,6 +19,8 @@ use Rattle.jobs.specs.declared.Written.{Written}
 use Rattle.whole.specs.ThirdDemand.{IsWritten}
 use Rattle.whole.proofs.ThirdDemand.{third-demand}
 use Rattle.whole.proofs.Audited.{audited}
+use Rattle.whole.specs.Repeats.{DifferentY}
+use Rattle.whole.proofs.Repeats.{repeats}
 use Rattle.jobs.proofs.FineJob.{no-refusal}
 use Rattle.demand.specs.Demand.{AcceptedIsPlain, AuditedAsShown, ValidIsWritten}
 
@@ -38,17 +40,18 @@ reply-is (W.Refused refusal ranking) order l rounds outs winner e = absurd (let 
 pub valid-is-written : (job : Job) (before after : List ℕ) (r : Written) →
     outcomeOf r ≡ writeOutcome sha256 job (length before) → after ≡ writeOutput sha256 job before → ValidIsWritten job before after r
 unfolding writeOutput
-valid-is-written job before after r e o v fits =
-    let w = third-demand sha256 .written-boards job v in
+valid-is-written job before after r e o v d fits =
+    let w = third-demand sha256 .written-boards job v d in
     let plain = plainResult job in
-    let long : length (board sha256 job) ≡ boardLength job = w .measured in
+    let long : length (board sha256 job) ≡ boardLength job = w .is-accepted .measured in
     let told = reply-is (r .reply) (r .order) (boardLength job) (plain .rounds) (plain .order) (plain .winner)
     (e ∙ w .replies (length before) (omega arith) ∙ rw long) in
-    let holds : after ≡ board sha256 job ++ drop (boardLength job) before = o ∙ rw (no-refusal sha256 job (length before) v fits) in
+    let holds : after ≡ board sha256 job ++ drop (boardLength job) before = o ∙ rw (no-refusal sha256 job (length before) v d fits) in
     let front : take (boardLength job) after ≡ board sha256 job = rw holds (take-at (board sha256 job) (drop (boardLength job) before) (boardLength job) long) in
     record {
       replies = told .0;
       orders = told .1;
       front = subst (λ s. IsWritten sha256 job s plain) (sym front) w;
+      different-Y = subst (λ s. DifferentY s (plain .rounds)) (sym front) (repeats sha256 .different-Y job v d);
       rest = rw holds (drop-at (board sha256 job) (drop (boardLength job) before) (boardLength job) long);
     }

@@ -17,7 +17,8 @@ use Rattle.jobs.specs.declared.Written.{Written}
 use Rattle.jobs.specs.declared.Reply.the-variants as W
 use Rattle.whole.specs.ThirdDemand.{countedRankings, IsPlain, IsWritten}
 use Rattle.whole.specs.Audited.{OpensAsShown}
-use Rattle.jobs.specs.Write.{Valid}
+use Rattle.whole.specs.Repeats.{DifferentY}
+use Rattle.jobs.specs.Write.{noRepeat, Valid}
 
 -- an accepted board whose counted ballots' matrices open to rankings and struck rows has the plain count's rounds, counts, order and winner:
 -- of the answer r to the board s
@@ -33,7 +34,8 @@ abbrev pub AuditedAsShown : (s : List ℕ) → Checked → Type 0
 AuditedAsShown s r =
     (rounds winner k : ℕ) → r .answer ≡ A.Accepted rounds winner → k < header s .K → isAudited (kind s (header s) k) ≡ true → OpensAsShown s k
 
--- every board written by the rules from 1 to 1,000 rankings of 2 to 8 processes, one counted at least, in any valid group with any valid draws, is accepted with that count:
+-- every board written by the rules from 1 to 1,000 rankings of 2 to 8 processes, one counted at least, in any valid group with any valid draws that no matrix
+-- repeats (02, L6), is accepted with that count:
 -- of the reply r to a job whose output held `before`, and then held `after`
 pub record WrittenIsPlain (job : Job) (before after : List ℕ) (r : Written) : Type 0 where
   -- the reply has the board's length and the plain count's rounds, order and winner
@@ -41,7 +43,9 @@ pub record WrittenIsPlain (job : Job) (before after : List ℕ) (r : Written) : 
   pub orders : take (plainResult job .rounds - 1) (r .order) ≡ plainResult job .order
   -- the front of the output is a board that is accepted with them, and opens to the job's rankings
   pub front : IsWritten sha256 job (take (boardLength job) after) (plainResult job)
+  -- and no two pairs of one of its matrices share a Y
+  pub different-Y : DifferentY (take (boardLength job) after) (plainResult job .rounds)
   pub rest : drop (boardLength job) after ≡ drop (boardLength job) before
 
 abbrev pub ValidIsWritten : (job : Job) (before after : List ℕ) → Written → Type 0
-ValidIsWritten job before after r = Valid sha256 job → boardLength job ≤ length before → WrittenIsPlain job before after r
+ValidIsWritten job before after r = Valid sha256 job → noRepeat job ≡ true → boardLength job ≤ length before → WrittenIsPlain job before after r

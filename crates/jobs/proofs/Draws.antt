@@ -2,18 +2,37 @@
 use Prim.Native.Nat.{ℕ, zero, suc, _+_, _*_, _-_, _≤_, _<_}
 use mathlib.Core.Path.{_≡_, refl}
 use mathlib.Core.Bool.{true}
-use native.Mathlib.Nat.{zero-add, suc-add, mul-le-mul-right}
+use native.Mathlib.Nat.{zero-add, suc-add, sub-zero, mul-le-mul-right}
 use native.Mathlib.Omega.{arith}
 use Rattle.numbers.specs.Below.{sumBelow}
 use Rattle.numbers.proofs.Sums.{sum-within}
-use Rattle.rules.specs.Records.{isCounted}
-use Rattle.jobs.specs.Job.{recordDraws, roundDraws, drawsAt}
+use Rattle.numbers.proofs.Tests.{by-cases}
+use Rattle.rules.specs.Records.{isCounted, recordsOf}
+use Rattle.jobs.specs.Job.{recordDraws, recordSecrets, roundDraws, drawsAt}
 
 -- a record's secrets are among its draws
-pub secrets-within : (n kind m : ℕ) → isCounted kind ≡ true → (n - m) * n ≤ recordDraws n kind m
-unfolding recordDraws
-secrets-within n kind zero c = let u : (n - 0) * n ≤ n * n = mul-le-mul-right n (omega arith) in omega arith
-secrets-within n kind (suc m) c = rw c (omega arith)
+pub secrets-within : (n kind m : ℕ) → recordSecrets n kind m ≤ recordDraws n kind m
+unfolding recordDraws recordsOf
+secrets-within n kind zero = rw sub-zero (omega arith)
+secrets-within n kind (suc m) = by-cases (isCounted kind) (λ c. rw c (omega arith)) (λ c. rw c (omega arith))
+
+-- a counted ballot has a record in every round
+pub counted-has : (kind m : ℕ) → isCounted kind ≡ true → recordsOf kind m ≡ 1
+unfolding recordsOf
+counted-has kind zero c = refl
+counted-has kind (suc m) c = rw c
+
+-- and who has one in a later round is counted
+pub has-counted : (kind m : ℕ) → recordsOf kind (suc m) ≡ 1 → isCounted kind ≡ true
+unfolding recordsOf
+has-counted kind m e = by-cases (isCounted kind) (λ c. c) (λ c. absurd (omega (arith, rw c at e)))
+
+-- a record's rows, of n each
+pub secrets-are : (n kind m : ℕ) → recordsOf kind m ≡ 1 → recordSecrets n kind m ≡ (n - m) * n
+secrets-are n kind m e = rw e (omega arith)
+
+pub counted-within : (n kind m : ℕ) → isCounted kind ≡ true → (n - m) * n ≤ recordDraws n kind m
+counted-within n kind m c = omega (arith, secrets-within n kind m, secrets-are n kind m (counted-has kind m c))
 
 module _ (n : ℕ) (kind : ℕ → ℕ) where
   pub round-more : (K m : ℕ) → roundDraws n kind K (suc m) ≡ roundDraws n kind K m + sumBelow K (λ k. recordDraws n (kind k) m)
@@ -27,7 +46,7 @@ module _ (n : ℕ) (kind : ℕ → ℕ) where
   pub columns-within : (K m b : ℕ) → m + 1 ≤ n → b < K → isCounted (kind b) ≡ true → drawsAt n kind K m b + n ≤ roundDraws n kind K (suc m)
   columns-within K m b h l c =
       let u : 1 * n ≤ (n - m) * n = mul-le-mul-right n (omega arith) in
-      omega (arith, draws-within K m b l, secrets-within n (kind b) m c)
+      omega (arith, draws-within K m b l, counted-within n (kind b) m c)
 
   -- rounds further on start further on
   draws-up : (K m d : ℕ) → roundDraws n kind K m ≤ roundDraws n kind K (d + m)

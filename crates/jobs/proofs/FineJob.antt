@@ -2,23 +2,23 @@
 use Prim.Native.Nat.{ℕ, _*_, _-_, _%_, _≤_, _<_}
 use native.Mathlib.Nat.{mod-eq-of-lt, pos-of-ne-zero}
 use native.Mathlib.Omega.{arith}
-use mathlib.Core.Path.{_≡_}
-use mathlib.Core.Bool.{true, _&&_, _||_, and-eq-true-iff}
-use mathlib.Core.List.{List}
+use mathlib.Core.Path.{_≡_, refl, sym}
+use mathlib.Core.Bool.{true, _&&_, _||_, true≢false, and-eq-true-iff}
+use mathlib.Core.List.{List, [], _∷_}
 use lib.Dec.{leb, ltb, eqb}
 use lib.ListN.{length}
 use borrow.Author.Tests.{ltb-true, leb-true, le-leb, eqb-true, eqb-false, not-true}
 use Rattle.jobs.specs.Job.{boardLength, Job, groupOf, rankingOf, kindOf, countedBelow, needed, draw}
 use Rattle.rules.specs.Records.{isCounted, isAudited}
-use Rattle.rules.specs.Tests.{firstFault}
+use Rattle.rules.specs.Tests.{firstFault, _orElse_}
 use Rattle.numbers.proofs.Tests.{all-at}
 use Rattle.rules.specs.Group.{orders, generators}
 use Rattle.group.specs.Elements.{isElement}
 use Rattle.rules.proofs.Orders.{orders-of-test, generators-of-test}
 use Rattle.rules.proofs.Elements.{Good}
-use Rattle.rules.proofs.Faults.{first-holds}
-use Rattle.rules.specs.Count.{isRanking}
-use Rattle.jobs.specs.Write.{Valid, jobFault}
+use Rattle.rules.proofs.Faults.{first-holds, fault-cases}
+use Rattle.rules.specs.Count.{member, isRanking}
+use Rattle.jobs.specs.Write.{noRepeat, Valid, jobFault}
 
 pub record Fine (hash : List ℕ → List ℕ) (job : Job) : Type 0 where
   pub n-low : 2 ≤ job .n
@@ -56,23 +56,26 @@ fine hash job v =
           (leb-true 1 _ (w .0), ltb-true _ _ (w .1));
     }
 
--- a job with no refusal is valid, and its board fits
-pub valid : (hash : List ℕ → List ℕ) (job : Job) (room : ℕ) → jobFault hash job room ≡ 0 → Valid hash job × (boardLength job ≤ room)
-unfolding jobFault
-valid hash job room h =
-    let a = first-holds _ _ (omega arith) h in
-    let b = first-holds _ _ (omega arith) (a .1) in
-    let c = first-holds _ _ (omega arith) (b .1) in
-    let d = first-holds _ _ (omega arith) (c .1) in
-    let e = first-holds _ _ (omega arith) (d .1) in
-    let f = first-holds _ _ (omega arith) (e .1) in
-    let g = first-holds _ _ (omega arith) (f .1) in
-    let i = first-holds _ _ (omega arith) (g .1) in
-    (record { passed = record { sized = a .0; ordered = b .0; labelled = c .0; ranked = d .0; kinds = e .0; some-counted = f .0 }; drawn = g .0 }, leb-true _ _ (i .0))
+-- the fault by cases: that of a test up to the draws, or, where they pass, that of the tests behind them
+pub fault-by : (P : ℕ → Type 0) (hash : List ℕ → List ℕ) (job : Job) (room : ℕ) → ((number : ℕ) → member number (3 ∷ 4 ∷ 5 ∷ 13 ∷ 17 ∷ 19 ∷ 14 ∷ []) ≡ true → P number) →
+    (Valid hash job → P (firstFault ((noRepeat job orElse 20) ∷ (leb (boardLength job) room orElse 15) ∷ []))) → P (jobFault hash job room)
+unfolding jobFault member
+fault-by P hash job room early behind =
+    fault-cases P _ _ (λ _. early 3 refl) (λ a. fault-cases P _ _ (λ _. early 4 refl) (λ b. fault-cases P _ _ (λ _. early 5 refl) (λ c.
+    fault-cases P _ _ (λ _. early 13 refl) (λ d. fault-cases P _ _ (λ _. early 17 refl) (λ e. fault-cases P _ _ (λ _. early 19 refl) (λ f.
+    fault-cases P _ _ (λ _. early 14 refl)
+    (λ g. behind (record { passed = record { sized = a; ordered = b; labelled = c; ranked = d; kinds = e; some-counted = f }; drawn = g }))))))))
 
-pub no-refusal : (hash : List ℕ → List ℕ) (job : Job) (room : ℕ) → Valid hash job → boardLength job ≤ room → jobFault hash job room ≡ 0
+-- a job with no refusal is valid, no x repeats in a matrix, and its board fits
+pub valid : (hash : List ℕ → List ℕ) (job : Job) (room : ℕ) → jobFault hash job room ≡ 0 → Valid hash job × (noRepeat job ≡ true) × (boardLength job ≤ room)
+unfolding member
+valid hash job room =
+    fault-by (λ x. x ≡ 0 → Valid hash job × (noRepeat job ≡ true) × (boardLength job ≤ room)) hash job room (λ x l z. absurd (true≢false (sym (rw z at l))))
+    (λ v h. let i = first-holds _ _ (omega arith) h in let j = first-holds _ _ (omega arith) (i .1) in (v, i .0, leb-true _ _ (j .0)))
+
+pub no-refusal : (hash : List ℕ → List ℕ) (job : Job) (room : ℕ) → Valid hash job → noRepeat job ≡ true → boardLength job ≤ room → jobFault hash job room ≡ 0
 unfolding jobFault firstFault
-no-refusal hash job room v l = let t = v .passed in rw (t .sized, t .ordered, t .labelled, t .ranked, t .kinds, t .some-counted, v .drawn, le-leb (boardLength job) room l)
+no-refusal hash job room v d l = let t = v .passed in rw (t .sized, t .ordered, t .labelled, t .ranked, t .kinds, t .some-counted, v .drawn, d, le-leb (boardLength job) room l)
 
 pub good-group : (hash : List ℕ → List ℕ) (job : Job) → Fine hash job → Good (groupOf hash job)
 unfolding orders generators isElement

@@ -5,6 +5,7 @@ pub mod Lengths
 pub mod Commitments
 pub mod Same
 pub mod Draws
+pub mod Repeats
 pub mod Matrices
 pub mod Positions
 pub mod FineJob

@@ -11,7 +11,7 @@ use lib.ListN.{length, getD}
 use borrow.Author.Tests.{ne-eqb, eqb-true, lt-ltb, le-ltb, ltb-true, ltb-false}
 use Rattle.numbers.specs.Below.{sumBelow}
 use Rattle.numbers.proofs.Tests.{all-at, by-cases}
-use Rattle.numbers.proofs.Sums.{sum-first, sum-add, sum-zero, sum-over, all-one-over, sum-under, all-one-under}
+use Rattle.numbers.proofs.Sums.{sum-first, sum-add, sum-zero, sum-over, all-one-over, sum-under, all-one-under, one-picked}
 use Rattle.rules.specs.Count.{member, isRanking}
 use Rattle.rules.specs.Claims.{source}
 use Rattle.jobs.specs.Job.{remaining, rowOf}
@@ -27,16 +27,8 @@ unfoldable pub hits : (n x : ℕ) → ℕ
 hits n x = sumBelow n (λ j. cond (eqb x (suc j)) 1 0)
 
 hits-at-most : (n x : ℕ) → hits n x ≤ 1
-unfolding hits sumBelow
-hits-at-most n x = go n .0
-  where
-    go : (n : ℕ) → (sumBelow n (λ j. cond (eqb x (suc j)) 1 0) ≤ 1) × (n < x → sumBelow n (λ j. cond (eqb x (suc j)) 1 0) ≡ 0)
-    go zero = (omega arith, λ l. refl)
-    go (suc n) =
-        let w = go n in
-        by-cases (eqb x (suc n))
-        (λ e. let q = eqb-true x (suc n) e in rw e (omega (arith, w .1 (omega arith)), λ l. omega arith))
-        (λ e. rw e (omega (arith, w .0), λ l. omega (arith, w .1 (omega arith))))
+unfolding hits
+hits-at-most n x = one-picked n (λ j. eqb x (suc j)) (λ i j a b e e'. omega (arith, eqb-true x (suc i) e, eqb-true x (suc j) e'))
 
 times-sum : (n : ℕ) (r : List ℕ) → sumBelow n (λ j. times (suc j) r) ≡ sumBelow (length r) (λ i. hits n (getD r i 0))
 unfolding times sumBelow hits

@@ -8,7 +8,7 @@ use Rattle.numbers.specs.Below.{sumBelow}
 use Rattle.group.specs.Elements.{Parameters}
 use Rattle.rules.specs.Bytes.{part}
 use Rattle.rules.specs.Group.{derived}
-use Rattle.rules.specs.Records.{isCounted, headerLength, recordLength, sheetLength}
+use Rattle.rules.specs.Records.{isCounted, recordsOf, headerLength, recordLength, sheetLength}
 use Rattle.rules.specs.Count.{Result, tableWhere, member, plainCount}
 use Rattle.rules.specs.Header.{Header}
 
@@ -37,6 +37,10 @@ shiftDraws n R = R * n + (R + 1) * (2 + R * n) + R
 unfoldable pub recordDraws : (n kind m : ℕ) → ℕ
 recordDraws n kind zero = ballotDraws n
 recordDraws n kind (suc m) = cond (isCounted kind) (shiftDraws n (n - suc m)) 0
+
+-- how many of a record's draws are x, "per record one x a pair": n² of a BA, R × n of a SH
+abbrev pub recordSecrets : (n kind m : ℕ) → ℕ
+recordSecrets n kind m = recordsOf kind m * ((n - m) * n)
 
 -- over n processes and the kinds of K ballots
 module _ (n : ℕ) (kind : ℕ → ℕ) where

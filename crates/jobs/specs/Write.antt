@@ -1,17 +1,17 @@
 -- Where a job stops: the writer's tests, its outcome, and what the output then holds.
-use Prim.Native.Nat.{ℕ, _*_}
+use Prim.Native.Nat.{ℕ, _+_, _*_}
 use mathlib.Core.Path.{_≡_}
 use mathlib.Core.Bool.{Bool, true, cond, not, _&&_, _||_}
 use mathlib.Core.List.{List, [], _∷_, _++_}
 use lib.Dec.{leb, ltb, eqb}
-use lib.ListN.{length, drop}
+use lib.ListN.{length, getD, drop}
 use Rattle.numbers.specs.Below.{allBelow, firstBelow}
 use Rattle.rules.specs.Records.{isCounted, isAudited}
 use Rattle.rules.specs.Group.{orders, generators}
 use Rattle.rules.specs.Count.{isRanking}
 use Rattle.rules.specs.Tests.{firstFault, _orElse_}
 use Rattle.rules.specs.Header.{ranked, sizes}
-use Rattle.jobs.specs.Job.{Job, groupOf, rankingOf, kindOf, countedBelow, draw, needed, boardLength, plainResult}
+use Rattle.jobs.specs.Job.{Job, groupOf, rankingOf, kindOf, countedBelow, recordSecrets, drawsAt, draw, needed, boardLength, plainResult}
 use Rattle.jobs.specs.Board.{board}
 
 -- "5: a label not of 32 bytes, or a rule on g0 or g1 broken"
@@ -34,6 +34,18 @@ someCounted job = not (eqb (countedBelow job (job .K)) 0)
 abbrev pub drawsGood : Job → Bool
 drawsGood job = leb (needed job) (length (job .draws)) && allBelow (needed job) (λ d. leb 1 (draw job d) && ltb (draw job d) (job .q))
 
+-- 02, L6: "the x of a matrix are pairwise different": of a matrix whose x are so many draws from a place on
+unfoldable pub different : (draws : List ℕ) (from size : ℕ) → Bool
+different draws from size = allBelow size (λ j. allBelow j (λ i. not (eqb (getD draws (from + i) 0) (getD draws (from + j) 0))))
+
+-- of the matrices of so many rounds, each by itself: "Across matrices a repeat stays allowed."
+abbrev pub roundsDifferent : (n : ℕ) (kind : ℕ → ℕ) (K rounds : ℕ) (draws : List ℕ) → Bool
+roundsDifferent n kind K rounds draws = allBelow rounds (λ m. allBelow K (λ k. different draws (drawsAt n kind K m k) (recordSecrets n (kind k) m)))
+
+-- of all matrices of the board: of needed draws alone
+abbrev pub noRepeat : Job → Bool
+noRepeat job = roundsDifferent (job .n) (kindOf job) (job .K) (plainResult job .rounds) (job .draws)
+
 module _ (hash : List ℕ → List ℕ) (job : Job) where
   -- none of 3, 4, 5, 13, 17 and 19 is due
   pub record Passed : Type 0 where
@@ -50,7 +62,8 @@ module _ (hash : List ℕ → List ℕ) (job : Job) where
     pub passed : Passed
     pub drawn : drawsGood job ≡ true
 
--- "It checks n and K (3), group (4), label and generators (5 ..), rankings (13 ..), draws (14 ..), output (15: shorter than the board)."; 17 and 19 behind 13
+-- "It checks n and K (3), group (4), label and generators (5 ..), rankings (13 ..), draws (14 ..), output (15: shorter than the board)."; 17 and 19 behind 13;
+-- 02, L6: "It refuses with 20 a repeat, after 14 and before 15."
 -- 0 where no test fails; room: the output's length
 unfoldable pub jobFault : (hash : List ℕ → List ℕ) → Job → (room : ℕ) → ℕ
 jobFault hash job room =
@@ -62,6 +75,7 @@ jobFault hash job room =
     ∷ (kindsGood job orElse 17)
     ∷ (someCounted job orElse 19)
     ∷ (drawsGood job orElse 14)
+    ∷ (noRepeat job orElse 20)
     ∷ (leb (boardLength job) room orElse 15)
     ∷ [])
 

@@ -1,13 +1,13 @@
 -- Laws of sums below a bound.
-use Prim.Native.Nat.{ℕ, zero, suc, _+_, _*_, _%_, _≤_, _<_}
+use Prim.Native.Nat.{ℕ, zero, suc, _+_, _*_, _-_, _%_, _≤_, _<_}
 use mathlib.Core.Path.{_≡_, refl, sym, ap, ap₂, _∙_}
 use mathlib.Core.Bool.{Bool, true, cond}
 use mathlib.Core.Logic.{_↔_, ⊎-elim}
 use native.Mathlib.Nat.{mul-zero, zero-mod, eq-or-lt-of-le, le-of-suc-le-suc, not-suc-le-zero}
 use native.Mathlib.Numerals.{add-one}
 use native.Mathlib.Omega.{arith}
-use lib.Dec.{eqb}
-use borrow.Author.Tests.{eq-eqb, ne-eqb}
+use lib.Dec.{ltb, eqb}
+use borrow.Author.Tests.{eq-eqb, ne-eqb, eqb-true, ltb-true, ltb-false}
 use Rattle.numbers.specs.Below.{sumBelow}
 use Rattle.numbers.proofs.Congruence.{Same, same-refl, same-of, add-same}
 use Rattle.numbers.proofs.Tests.{by-cases}
@@ -145,3 +145,24 @@ all-one-under (suc n) f h b i l =
     let high = sum-under n f (λ i l. h i (omega arith)) in
     let last = h n (omega arith) in
     ⊎-elim (λ (e : i ≡ n). rw e (omega arith)) (λ (c : i < n). all-one-under n f (λ i l. h i (omega arith)) (omega arith) i c) (eq-or-lt-of-le (le-of-suc-le-suc l))
+
+-- a test that no two numbers below the bound pass picks one at most
+pub one-picked : (m : ℕ) (p : ℕ → Bool) → ((i j : ℕ) → i < j → j < m → p i ≡ true → p j ≡ true → ⊥) → sumBelow m (λ k. cond (p k) 1 0) ≤ 1
+unfolding sumBelow
+one-picked zero p h = omega arith
+one-picked (suc m) p h =
+    let rest = one-picked m p (λ i j a b. h i j a (omega arith)) in
+    by-cases (p m)
+    (λ e. rw e (by-cases (ltb 0 (sumBelow m (λ k. cond (p k) 1 0)))
+    (λ l. let w = some-picked m p .0 (ltb-true _ _ l) in absurd (h (w .0) m (w .1) (omega arith) (w .2) e))
+    (λ l. omega (arith, ltb-false 0 (sumBelow m (λ k. cond (p k) 1 0)) l))))
+    (λ e. rw e (omega arith))
+
+-- the pigeonhole principle: different numbers from 1 to Q are Q at most
+pub different-few : (m Q : ℕ) (f : ℕ → ℕ) → ((i : ℕ) → i < m → (1 ≤ f i) × (f i ≤ Q)) → ((i j : ℕ) → i < j → j < m → f i ≡ f j → ⊥) → m ≤ Q
+different-few m Q f within apart =
+    let is : ℕ → ℕ → Bool = λ i v. eqb (f i) (suc v) in
+    let each : (i : ℕ) → i < m → 1 ≤ sumBelow Q (λ v. cond (is i v) 1 0) =
+    λ i l. some-picked Q (is i) .1 (f i - 1, omega (arith, within i l), eq-eqb (f i) (suc (f i - 1)) (omega (arith, within i l))) in
+    let once : (v : ℕ) → v < Q → sumBelow m (λ i. cond (is i v) 1 0) ≤ 1 = λ v _. one-picked m (λ i. is i v) (λ i j a b e e'. apart i j a b (eqb-true _ _ e ∙ sym (eqb-true _ _ e'))) in
+    omega (arith, sum-over m (λ i. sumBelow Q (λ v. cond (is i v) 1 0)) each, sum-swap m Q (λ i v. cond (is i v) 1 0), sum-under Q (λ v. sumBelow m (λ i. cond (is i v) 1 0)) once)

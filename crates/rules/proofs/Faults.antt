@@ -92,9 +92,12 @@ unfolding firstFault
 fault-none = refl
 
 -- what holds of 0, and of the refusal of each test that fails, holds of the first fault
-pub fault-is : (P : ℕ → Type 0) (t : Test) (ts : List Test) → (t .holds ≡ false → P (t .refusal)) → P (firstFault ts) → P (firstFault (t ∷ ts))
+pub fault-cases : (P : ℕ → Type 0) (t : Test) (ts : List Test) → (t .holds ≡ false → P (t .refusal)) → (t .holds ≡ true → P (firstFault ts)) → P (firstFault (t ∷ ts))
 unfolding firstFault
-fault-is P t ts here later = by-cases (t .holds) (λ e. rw e later) (λ e. rw e (here e))
+fault-cases P t ts here later = by-cases (t .holds) (λ e. rw e (later e)) (λ e. rw e (here e))
+
+pub fault-is : (P : ℕ → Type 0) (t : Test) (ts : List Test) → (t .holds ≡ false → P (t .refusal)) → P (firstFault ts) → P (firstFault (t ∷ ts))
+fault-is P t ts here later = fault-cases P t ts here (λ _. later)
 
 -- where the first tests hold, the fault is that of the rest
 abbrev pub Positive : List Test → Type 0

@@ -25,8 +25,9 @@ positive R.Digests = lit< tt
 positive R.Kind = lit< tt
 positive R.Opening = lit< tt
 positive R.NoneCounted = lit< tt
+positive R.Repeat = lit< tt
 
-pub number-most : (w : Refusal) → refusalNumber w ≤ 19
+pub number-most : (w : Refusal) → refusalNumber w ≤ 20
 number-most R.Length = lit≤ tt
 number-most R.Mark = lit≤ tt
 number-most R.Sizes = lit≤ tt
@@ -46,3 +47,4 @@ number-most R.Digests = lit≤ tt
 number-most R.Kind = lit≤ tt
 number-most R.Opening = lit≤ tt
 number-most R.NoneCounted = lit≤ tt
+number-most R.Repeat = lit≤ tt

@@ -32,6 +32,7 @@ refusalNumber R.Digests = 16
 refusalNumber R.Kind = 17
 refusalNumber R.Opening = 18
 refusalNumber R.NoneCounted = 19
+refusalNumber R.Repeat = 20
 
 -- the checker's answer; of the array of 8 the first rounds - 1 are the order
 abbrev pub answerOf : Answer → (order : List ℕ) → Verdict

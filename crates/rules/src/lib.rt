@@ -42,6 +42,8 @@ pub enum Refusal {
     Opening,
     // 19: no ballot is counted.
     NoneCounted,
+    // 20: two x of a matrix are equal.
+    Repeat,
 }
 
 // The number of a refusal in the table.
@@ -68,6 +70,7 @@ pub fn refusal_number(r: Refusal) -> usize
         Refusal::Kind => 17,
         Refusal::Opening => 18,
         Refusal::NoneCounted => 19,
+        Refusal::Repeat => 20,
     }
 }
 

@@ -1,4 +1,6 @@
 // The numbers of a job, its tests, and the group that it fixes.
+pub mod repeats;
+
 use group::Element;
 use group::Group;
 use plain::kinds;

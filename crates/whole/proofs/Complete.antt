@@ -29,9 +29,9 @@ use Rattle.jobs.specs.Job.{countedRankings as jobRankings, Job, groupOf, header
 use Rattle.jobs.specs.Board.{jobDraws, jobBallot, recordBytes, roundsFrom, board}
 use Rattle.whole.specs.Rules.{HeaderRules}
 use Rattle.whole.specs.Audited.{exponentOf, rankingShown}
-use Rattle.whole.specs.ThirdDemand.{countedRankings, IsWritten, IsPlain}
+use Rattle.whole.specs.ThirdDemand.{countedRankings, IsAccepted, IsWritten, IsPlain}
 use Rattle.whole.proofs.Rules.{header-rules}
-use Rattle.jobs.specs.Write.{Valid, writeOutcome}
+use Rattle.jobs.specs.Write.{noRepeat, Valid, writeOutcome}
 use Rattle.jobs.proofs.FineJob.{no-refusal, Fine, fine, good-group}
 use Rattle.rules.specs.Openings.{Opens, OpensTo, listAt}
 use Rattle.whole.proofs.Sound.{sound}
@@ -134,12 +134,12 @@ module _ (hash : List ℕ → List ℕ) (job : Job) (f : Fine hash job) where
   unfolding recordBytes
   ballot-stands k l = record-stands hash job s f header-same kinds-same (job .n - 1) start 0 [] 0 starts k l
 
-  in-first : 0 < plainResult job .rounds
+  pub in-first : 0 < plainResult job .rounds
   in-first = in-rounds job (f .ranked) (starts .count)
 
-pub written : (hash : List ℕ → List ℕ) (job : Job) → Valid hash job → IsWritten hash job (board hash job) (plainResult job)
-unfolding checkModel boardLength writeOutcome
-written hash job v =
+pub fixed : (hash : List ℕ → List ℕ) (job : Job) → Valid hash job → IsAccepted hash job (board hash job) (plainResult job)
+unfolding checkModel boardLength
+fixed hash job v =
     let f = fine hash job v in
     let s = board hash job in
     let r = plainResult job in
@@ -153,7 +153,7 @@ written hash job v =
       full = subst⁻¹ (λ h. (k : ℕ) → k < h .K → isCounted (kind s h k) ≡ true → isRanking (h .n) (rankingOf job k) ≡ true) e (λ k l _. f .ranked k l);
       opens = subst⁻¹
           (λ h. (m k : ℕ) → m < r .rounds → k < h .K → isCounted (kind s h k) ≡ true → OpensTo (h .group) (h .n - m) (h .n) (matrix s h m k) (listAt s (rankingOf job) m k))
-          e (λ m k b c d. w .1 m k zero-le b c (rw (kinds-same hash job f k c) at d));
+          e (λ m k b c d. w .1 m k zero-le b c (rw (kinds-same hash job f k c) at d) .0);
     } in
     let same : countedRankings s (rankingOf job) ≡ jobRankings job =
     subst⁻¹ (λ h. tableWhere (h .K) (λ k. isCounted (kind s h k)) (rankingOf job) ≡ jobRankings job) e
@@ -164,15 +164,14 @@ written hash job v =
     let l : length s ≡ boardLength job =
     subst (λ h. length s ≡ roundAt (h .n) (kind s h) (h .K) (r .rounds)) e (p .whole ∙ round-is s (header s) (r .rounds))
     ∙ round-same (job .n) (job .K) (kind s (headerOf hash job)) (kindOf job) (kinds-same hash job f) (r .rounds) in
-    record {
-      heads = e;
-      kinds = kinds;
-      accepts = a;
-      opens = o;
-      is-plain = p;
-      measured = l;
-      replies = λ room b. rw (no-refusal hash job room v (omega (arith, l)), l);
-    }
+    record { heads = e; kinds = kinds; accepts = a; opens = o; is-plain = p; measured = l }
+
+pub written : (hash : List ℕ → List ℕ) (job : Job) → Valid hash job → noRepeat job ≡ true → IsWritten hash job (board hash job) (plainResult job)
+unfolding writeOutcome
+written hash job v d =
+    let w = fixed hash job v in
+    let l = w .measured in
+    record { is-accepted = w; replies = λ room b. rw (no-refusal hash job room v d (omega (arith, l)), l) }
 
 -- what an audited ballot of a written board shows
 pub written-shown : (hash : List ℕ → List ℕ) (job : Job) → Valid hash job → (k : ℕ) → k < job .K → isAudited (kindOf job k) ≡ true →

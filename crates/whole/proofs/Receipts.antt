@@ -192,7 +192,7 @@ module _ (hash : List ℕ → List ℕ) (job : Job) (v : Valid hash job) where
   written-found : (k : ℕ) → k < job .K → length (hash (ballot k)) ≡ 32 →
       (j : ℕ) × (j ≤ k) × (hash (ballot j) ≡ hash (ballot k)) × (findOutcome hash s (hash (ballot k)) 1 ≡ numbersFound (suc j ∷ []))
   written-found k l long =
-      let w = third-demand hash .written-boards job v in
+      let w = third-demand hash .fixed-boards job v in
       let K : header s .K ≡ job .K = ap (λ (h : Header). h .K) (w .heads) in
       let a = accepted-answered hash s _ _ _ (w .accepts) (hash (ballot k)) 1 (one-fine (hash (ballot k)) long) in
       let (j, q, b, t) = first-of (header s .K) (λ i. same (hash (ballotRecord s i)) (hash (ballot k))) k (omega arith) (rw (record-is k l) (same-refl (hash (ballot k)))) in

@@ -140,7 +140,7 @@ module _ (hash : List ℕ → List ℕ) (s : List ℕ) where
 
 -- ---- jobs
 abbrev Numbers : List ℕ
-Numbers = 3 ∷ 4 ∷ 5 ∷ 13 ∷ 17 ∷ 19 ∷ 14 ∷ 15 ∷ []
+Numbers = 3 ∷ 4 ∷ 5 ∷ 13 ∷ 17 ∷ 19 ∷ 14 ∷ 20 ∷ 15 ∷ []
 
 low-bad : (job : Job) → firstBad job (job .K) ≤ job .K
 low-bad job = elim (first-is (job .K) (λ i. not (isRanking (job .n) (rankingOf job i)))) [ inl z ↦ omega (arith, z .0) | inr o ↦ omega (arith, o .1, o .2) ]
@@ -150,7 +150,7 @@ unfolding jobFault member
 job-number hash job room =
     let P : ℕ → Type 0 = λ x. member x (0 ∷ Numbers) ≡ true in
     let step : (t : Test) (ts : List Test) → P (t .refusal) → P (firstFault ts) → P (firstFault (t ∷ ts)) = λ t ts l. fault-is P t ts (λ _. l) in
-    step _ _ refl (step _ _ refl (step _ _ refl (step _ _ refl (step _ _ refl (step _ _ refl (step _ _ refl (step _ _ refl (rw fault-none))))))))
+    step _ _ refl (step _ _ refl (step _ _ refl (step _ _ refl (step _ _ refl (step _ _ refl (step _ _ refl (step _ _ refl (step _ _ refl (rw fault-none)))))))))
 
 -- 13 is due only where the rankings are bad
 rankings-bad : (hash : List ℕ → List ℕ) (job : Job) (room : ℕ) → rankingsGood job ≡ true → jobFault hash job room ≡ 13 → ⊥
@@ -160,7 +160,7 @@ rankings-bad hash job room good =
     let other : (t : Test) (ts : List Test) → P (t .refusal) → P (firstFault ts) → P (firstFault (t ∷ ts)) = λ t ts l. fault-is P t ts (λ _. l) in
     other _ _ (λ z. omega arith) (other _ _ (λ z. omega arith) (other _ _ (λ z. omega arith)
     (fault-is P _ _ (λ bad. absurd (true≢false (sym good ∙ bad)))
-    (other _ _ (λ z. omega arith) (other _ _ (λ z. omega arith) (other _ _ (λ z. omega arith) (other _ _ (λ z. omega arith) (rw fault-none (λ z. omega arith)))))))))
+    (other _ _ (λ z. omega arith) (other _ _ (λ z. omega arith) (other _ _ (λ z. omega arith) (other _ _ (λ z. omega arith) (other _ _ (λ z. omega arith) (rw fault-none (λ z. omega arith))))))))))
 
 -- and where the sizes are good
 few-rankings : (hash : List ℕ → List ℕ) (job : Job) (room : ℕ) → jobFault hash job room ≡ 13 → job .K ≤ 1000
@@ -295,6 +295,6 @@ refusals hash =
       records-read = λ s h m. number-next s h m ∙ records-in s h m;
       of-jobs = job-refusal hash;
       of-finds = find-refusal hash;
-      none = λ job room. (valid hash job room, λ w. no-refusal hash job room (w .0) (w .1));
+      none = λ job room. (valid hash job room, λ w. no-refusal hash job room (w .0) (w .1) (w .2));
       of-counts = count-limit;
     }

@@ -1,15 +1,15 @@
 -- The starred cases hold.
-use Prim.Native.Nat.{ℕ, suc, _*_, _-_, _≤_, _<_}
-use mathlib.Core.Path.{_≡_, refl, _∙_}
+use Prim.Native.Nat.{ℕ, suc, _+_, _*_, _-_, _%_, _≤_, _<_}
+use mathlib.Core.Path.{_≡_, refl, ap, _∙_}
 use mathlib.Core.Bool.{Bool, true, false, not, _&&_, and-false, or-true}
-use mathlib.Core.List.{List}
+use mathlib.Core.List.{List, [], _∷_}
 use native.Mathlib.Omega.{arith}
-use lib.Dec.{ltb, eqb}
-use lib.ListN.{replicate}
-use borrow.Author.Tests.{le-ltb, ne-eqb}
+use lib.Dec.{leb, ltb, eqb}
+use lib.ListN.{length, getD, replicate}
+use borrow.Author.Tests.{le-leb, lt-ltb, le-ltb, ne-eqb}
 use Rattle.numbers.specs.Below.{allBelow, sumBelow}
 use Rattle.numbers.specs.Primes.{isPrime}
-use Rattle.numbers.proofs.Tests.{any-holds, any-fails}
+use Rattle.numbers.proofs.Tests.{and-true, all-true, any-holds, any-fails}
 use Rattle.compression.specs.Words.{ROTR, ¬w, Ch, Maj, Σ₀, Σ₁, σ₀, σ₁}
 use Rattle.compression.specs.Block as Block
 use Rattle.sha256.specs.Message as Message
@@ -20,11 +20,15 @@ use Rattle.rules.specs.Group.{orders, paired, derived, generators}
 use Rattle.rules.specs.Proofs.{statementHolds}
 use Rattle.rules.specs.Count.{Standing, start, roundNumber, member, countOf, fewer, pick, majority, closes, isRanking, tableWhere, plainCount}
 use Rattle.rules.specs.Openings.{without}
-use Rattle.jobs.specs.Job.{countedRankings as jobRankings, plainResult, needed, roundDraws, roundAt, boardLength}
-use Rattle.jobs.specs.Write.{Valid}
-use Rattle.whole.specs.Worked.{small, Pair, circle, twoOfTwo, smallJob, auditedJob, Circle, Spot, Ties, Worked}
-use Rattle.whole.proofs.Complete.{written, written-shown}
+use Rattle.rules.specs.Records.{recordsOf}
+use Rattle.jobs.specs.Job.{Job, countedRankings as jobRankings, plainResult, recordDraws, needed, roundDraws, roundAt, boardLength}
+use Rattle.jobs.specs.Write.{drawsGood, different, noRepeat, Passed, Valid, badRanking, boardWritten, jobRefused, writeOutcome}
+use Rattle.whole.specs.Worked.{small, Pair, circle, twoOfTwo, inTurn, smallJob, auditedJob, Circle, Spot, Ties, Worked}
+use Rattle.whole.proofs.Complete.{fixed, written, written-shown}
 use Rattle.whole.proofs.Refusals.{count-limit}
+use Rattle.whole.proofs.Repeats.{repeats}
+use Rattle.whole.specs.Repeats.{Repeat}
+use Rattle.rules.proofs.Lists.{length-table, table-at}
 use Rattle.rules.proofs.Leaving.{rounds-over}
 
 pair : (x v : ℕ) → x < 11 → v < 11 → Pair x v (paired small x v) (powMod 23 3 x)
@@ -59,7 +63,7 @@ module _ (hash : List ℕ → List ℕ) (p q g0 counter : ℕ) (label draws : Li
   goes-around : Valid hash (circle p q g0 counter label draws) → Circle hash (circle p q g0 counter label draws)
   unfolding plainCount tableWhere
   goes-around v =
-      let w = written hash (circle p q g0 counter label draws) v in
+      let w = fixed hash (circle p q g0 counter label draws) v in
       record { size = w .measured ∙ circle-size; draws = circle-draws; verdict = w .accepts }
 
 module _ (hash : List ℕ → List ℕ) (p q g0 counter : ℕ) (label rankings draws : List ℕ) where
@@ -78,13 +82,45 @@ small-made : derived sha256 (replicate 32 0) 23 11 2 1 ≡ 3
 unfolding derived powMod ROTR ¬w Ch Maj Σ₀ Σ₁ σ₀ σ₁ Block.K Block.H₀ Block.word Block.words Block.next Block.schedule Block.T₁ Block.T₂ Block.round Block.rounds Block.sums Block.compress Message.be64 Message.padding Message.padded Message.blocks Message.bytes sha256
 small-made = refl
 
-small-valid : Valid sha256 smallJob
+-- the draws of the small group are good
+in-turn-good : (count : ℕ) → (leb count (length (inTurn count)) && allBelow count (λ d. leb 1 (getD (inTurn count) d 0) && ltb (getD (inTurn count) d 0) 11)) ≡ true
+in-turn-good count =
+    and-true (le-leb count (length (inTurn count)) (omega (arith, length-table count (λ d. d % 10 + 1))))
+    (all-true count _ (λ d l. rw (table-at count (λ d. d % 10 + 1) 0 d l) (and-true (le-leb 1 (d % 10 + 1) (omega arith)) (lt-ltb (d % 10 + 1) 11 (omega arith)))))
+
+small-passed : (draws : List ℕ) → Passed sha256 (circle 23 11 2 1 (replicate 32 0) draws)
 unfolding orders generators isPrime isElement powMod allBelow sumBelow isRanking
-small-valid =
-    record {
-      passed = record { sized = refl; ordered = refl; labelled = rw small-made; ranked = refl; kinds = refl; some-counted = refl };
-      drawn = rw (circle-draws sha256 23 11 2 1 (replicate 32 0) (replicate 222 5));
-    }
+small-passed draws = record { sized = refl; ordered = refl; labelled = rw small-made; ranked = refl; kinds = refl; some-counted = refl }
+
+small-valid : Valid sha256 smallJob
+small-valid = record { passed = small-passed (inTurn 222); drawn = rw (circle-draws sha256 23 11 2 1 (replicate 32 0) (inTurn 222)) (in-turn-good 222) }
+
+small-unrepeated : noRepeat smallJob ≡ true
+unfolding allBelow sumBelow different plainCount tableWhere recordDraws roundDraws recordsOf
+small-unrepeated = refl
+
+small-written : writeOutcome sha256 smallJob 2537 ≡ boardWritten 2537 2 (3 ∷ []) 1
+unfolding plainCount tableWhere
+small-written =
+    let w = written sha256 smallJob small-valid small-unrepeated in
+    let l = w .is-accepted .measured ∙ circle-size sha256 23 11 2 1 (replicate 32 0) (inTurn 222) in
+    w .replies 2537 (omega (arith, l)) ∙ ap (λ (size : ℕ). boardWritten size 2 (3 ∷ []) 1) l
+
+-- the same with all draws equal
+abbrev equalJob : Job
+equalJob = circle 23 11 2 1 (replicate 32 0) (replicate 222 5)
+
+equal-drawn : drawsGood equalJob ≡ true
+unfolding allBelow
+equal-drawn = rw (circle-draws sha256 23 11 2 1 (replicate 32 0) (replicate 222 5))
+
+equal-repeats : Repeat equalJob
+unfolding plainCount tableWhere roundDraws sumBelow recordsOf
+equal-repeats = record { m = 0; k = 0; i = 0; j = 1; in-rounds = omega arith; in-ballots = omega arith; earlier = omega arith; in-matrix = omega arith; equal = refl }
+
+small-refused : writeOutcome sha256 equalJob 2537 ≡ jobRefused 20 0
+unfolding writeOutcome badRanking
+small-refused = rw (repeats sha256 .due-iff equalJob 2537 .1 (record { passed = small-passed (replicate 222 5); drawn = equal-drawn }, equal-repeats))
 
 spot-draws : needed auditedJob ≡ 190
 unfolding needed plainCount tableWhere roundDraws
@@ -96,14 +132,19 @@ spot-size = refl
 
 spot-valid : Valid sha256 auditedJob
 unfolding orders generators isPrime isElement powMod allBelow sumBelow isRanking
-spot-valid = record { passed = record { sized = refl; ordered = refl; labelled = rw small-made; ranked = refl; kinds = refl; some-counted = refl }; drawn = rw spot-draws }
+spot-valid = record { passed = record { sized = refl; ordered = refl; labelled = rw small-made; ranked = refl; kinds = refl; some-counted = refl }; drawn = rw spot-draws (in-turn-good 190) }
+
+spot-unrepeated : noRepeat auditedJob ≡ true
+unfolding allBelow sumBelow different plainCount tableWhere recordDraws roundDraws recordsOf
+spot-unrepeated = refl
 
 spotted : Spot
 unfolding plainCount tableWhere
 spotted =
-    let w = written sha256 auditedJob spot-valid in
+    let w = fixed sha256 auditedJob spot-valid in
     record {
       valid = spot-valid;
+      unrepeated = spot-unrepeated;
       size = w .measured ∙ spot-size;
       draws = spot-draws;
       verdict = w .accepts;
@@ -143,11 +184,13 @@ worked =
       struck = refl;
       each-way = refl;
       two-of-two = λ hash p q g0 counter label rankings draws v.
-          written hash (twoOfTwo p q g0 counter label rankings draws) v .measured ∙ two-size hash p q g0 counter label rankings draws;
+          fixed hash (twoOfTwo p q g0 counter label rankings draws) v .measured ∙ two-size hash p q g0 counter label rankings draws;
       around = goes-around;
       made = small-made;
       small-valid = small-valid;
-      small-around = goes-around sha256 23 11 2 1 (replicate 32 0) (replicate 222 5) small-valid;
+      small-around = goes-around sha256 23 11 2 1 (replicate 32 0) (inTurn 222) small-valid;
+      small-written = small-written;
+      small-refused = small-refused;
       spot = spotted;
       ties = tied;
     }

@@ -1,10 +1,11 @@
--- What is claimed of whole boards: the second and the third demand, audited ballots, what the refusals name, the receipts found, the messages of
--- challenges, and the starred cases.
+-- What is claimed of whole boards: the second and the third demand, audited ballots, what the refusals name, draws that repeat, the receipts found, the
+-- messages of challenges, and the starred cases.
 pub mod Rules
 pub mod SecondDemand
 pub mod ThirdDemand
 pub mod Audited
 pub mod Refusals
+pub mod Repeats
 pub mod EqualCounts
 pub mod Receipts
 pub mod Messages

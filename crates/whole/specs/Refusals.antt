@@ -10,7 +10,7 @@ use Rattle.rules.specs.Header.{Header, header}
 use Rattle.rules.specs.Check.{place, recordNumber, counted, refused, checkBoard}
 use Rattle.rules.specs.Receipts.{findRefused, findOutcome}
 use Rattle.jobs.specs.Job.{Job, rankingOf, boardLength}
-use Rattle.jobs.specs.Write.{jobFault, jobRefused, writeOutcome, Valid}
+use Rattle.jobs.specs.Write.{noRepeat, jobFault, jobRefused, writeOutcome, Valid}
 
 -- "The result of a refusal is its number and the record's number (with 12, the number of records read)"
 pub record BoardRefusal (s : List ℕ) (refusal number : ℕ) : Type 0 where
@@ -28,7 +28,7 @@ pub record BoardRefusal (s : List ℕ) (refusal number : ℕ) : Type 0 where
 
 -- "With 13 goes the first bad ranking from 1, or 0 for a wrong length; with the others 0."
 pub record JobRefusal (job : Job) (number ranking : ℕ) : Type 0 where
-  pub numbered : member number (3 ∷ 4 ∷ 5 ∷ 13 ∷ 17 ∷ 19 ∷ 14 ∷ 15 ∷ []) ≡ true
+  pub numbered : member number (3 ∷ 4 ∷ 5 ∷ 13 ∷ 17 ∷ 19 ∷ 14 ∷ 20 ∷ 15 ∷ []) ≡ true
   pub others : (number ≡ 13 → ⊥) → ranking ≡ 0
   pub wrong-length : (length (job .rankings) ≡ job .K * job .n → ⊥) → ranking ≡ 0
   pub first-bad : number ≡ 13 → length (job .rankings) ≡ job .K * job .n →
@@ -49,8 +49,8 @@ pub record Refusals (hash : List ℕ → List ℕ) : Type 0 where
   pub records-read : (s : List ℕ) (h : Header) (m : ℕ) → recordNumber s h (suc m) 0 ≡ 1 + (h .K + 1) + m * (counted s h + 1)
   pub of-jobs : (job : Job) (room number ranking : ℕ) → writeOutcome hash job room ≡ jobRefused number ranking → JobRefusal job number ranking
   pub of-finds : (s digests : List ℕ) (room refusal number : ℕ) → findOutcome hash s digests room ≡ findRefused refusal number → FindRefusal s refusal number
-  -- a job is written just where it is valid and its board fits
-  pub none : (job : Job) (room : ℕ) → (jobFault hash job room ≡ 0) ↔ (Valid hash job × (boardLength job ≤ room))
+  -- a job is written just where it is valid, no matrix repeats an x and its board fits
+  pub none : (job : Job) (room : ℕ) → (jobFault hash job room ≡ 0) ↔ (Valid hash job × (noRepeat job ≡ true) × (boardLength job ≤ room))
   -- the plain count of 2 or more processes ends by itself: more fuel changes nothing
   pub of-counts : (n extra : ℕ) (rankings : List (List ℕ)) → 2 ≤ n →
       (plainCount n rankings .rounds ≤ n - 1) × (countFrom n rankings (n + extra) start ≡ plainCount n rankings)

@@ -1,7 +1,7 @@
 -- The third demand as one statement about whole boards, first byte to last. docs/THIRD_DEMAND.md puts it beside the demand's words.
 use Prim.Native.Nat.{ℕ, _+_, _-_, _≤_, _<_}
 use mathlib.Core.Path.{_≡_}
-use mathlib.Core.Bool.{cond}
+use mathlib.Core.Bool.{true, cond}
 use mathlib.Core.List.{List}
 use lib.ListN.{length}
 use Rattle.numbers.specs.Below.{sumBelow}
@@ -12,7 +12,7 @@ use Rattle.rules.specs.Check.{accepted, place, kind, counted, outField, countFi
 use Rattle.rules.specs.Openings.{Opens}
 use Rattle.jobs.specs.Job.{Job, headerOf, rankingOf, kindOf, plainResult, boardLength}
 use Rattle.jobs.specs.Board.{board}
-use Rattle.jobs.specs.Write.{Valid, boardWritten, writeOutcome}
+use Rattle.jobs.specs.Write.{noRepeat, Valid, boardWritten, writeOutcome}
 
 -- "the number of RT on the board", of its records in so many rounds: those that ballots have, and the sheets
 abbrev pub sheetsOn : (s : List ℕ) (rounds : ℕ) → ℕ
@@ -42,14 +42,17 @@ pub record IsPlain (s : List ℕ) (rounds : ℕ) (order : List ℕ) (winner : �
 module _ (hash : List ℕ → List ℕ) where
   -- the board of a job is accepted with the plain count's result, has the job's kinds, opens to the job's rankings and says on every sheet
   -- what the plain count says
-  pub record IsWritten (job : Job) (s : List ℕ) (plain : Result) : Type 0 where
+  pub record IsAccepted (job : Job) (s : List ℕ) (plain : Result) : Type 0 where
     pub heads : header s ≡ headerOf hash job
     pub kinds : (k : ℕ) → k < job .K → kind s (header s) k ≡ kindOf job k
     pub accepts : checkBoard hash s ≡ accepted (plain .rounds) (plain .order) (plain .winner)
     pub opens : Opens s (rankingOf job) (plain .rounds)
     pub is-plain : IsPlain s (plain .rounds) (plain .order) (plain .winner) plain
-    -- the writer's result, where the output has room
     pub measured : length s ≡ boardLength job
+
+  -- and it is what the writer writes where the output has room
+  pub record IsWritten (job : Job) (s : List ℕ) (plain : Result) : Type 0 where
+    pub is-accepted : IsAccepted job s plain
     pub replies : (room : ℕ) → length s ≤ room → writeOutcome hash job room ≡ boardWritten (length s) (plain .rounds) (plain .order) (plain .winner)
 
   pub record ThirdDemand : Type 0 where
@@ -58,6 +61,8 @@ module _ (hash : List ℕ → List ℕ) where
         checkBoard hash s ≡ accepted rounds order winner →
         Opens s rankings rounds →
         IsPlain s rounds order winner (plainCount (header s .n) (countedRankings s rankings))
-    -- every board written by the rules from 1 to 1,000 rankings of 2 to 8 processes, each counted or audited and one counted at least, in any valid
-    -- group with any valid draws, is accepted with that count
-    pub written-boards : (job : Job) → Valid hash job → IsWritten job (board hash job) (plainResult job)
+    -- every board that the rules fix for 1 to 1,000 rankings of 2 to 8 processes, each counted or audited and one counted at least, in any valid
+    -- group with any valid draws, is accepted with that count, whoever made it
+    pub fixed-boards : (job : Job) → Valid hash job → IsAccepted job (board hash job) (plainResult job)
+    -- and where no matrix repeats an x the writer writes it: "the assurance that written boards are accepted excludes such groups and repeats" (02, L6)
+    pub written-boards : (job : Job) → Valid hash job → noRepeat job ≡ true → IsWritten job (board hash job) (plainResult job)

@@ -1,5 +1,5 @@
 -- The starred cases of "Tried by hand", each said of the definitions, in one table, with p = 23, q = 11, g0 = 2 and g1 = 3; and equal counts (02).
-use Prim.Native.Nat.{ℕ, suc, _-_, _≤_, _<_}
+use Prim.Native.Nat.{ℕ, suc, _+_, _-_, _%_, _≤_, _<_}
 use mathlib.Core.Path.{_≡_}
 use mathlib.Core.Bool.{true, false}
 use mathlib.Core.List.{List, [], _∷_}
@@ -9,12 +9,12 @@ use Rattle.group.specs.Arithmetic.{mulMod, powMod}
 use Rattle.group.specs.Elements.{Parameters}
 use Rattle.rules.specs.Group.{paired, derived}
 use Rattle.rules.specs.Proofs.{statementHolds}
-use Rattle.rules.specs.Count.{Standing, roundNumber, start, member, countOf, leaves, wins, closes, plainCount}
+use Rattle.rules.specs.Count.{table, Standing, roundNumber, start, member, countOf, leaves, wins, closes, plainCount}
 use Rattle.rules.specs.Check.{accepted, checkBoard}
 use Rattle.rules.specs.Openings.{Opening, without}
 use Rattle.jobs.specs.Job.{Job, needed}
 use Rattle.jobs.specs.Board.{board}
-use Rattle.jobs.specs.Write.{Valid}
+use Rattle.jobs.specs.Write.{noRepeat, Valid, boardWritten, jobRefused, writeOutcome}
 use Rattle.whole.specs.Audited.{rankingShown}
 
 abbrev pub small : Parameters
@@ -47,9 +47,13 @@ abbrev pub twoOfTwo : (p q g0 counter : ℕ) (label rankings draws : List ℕ) �
 twoOfTwo p q g0 counter label rankings draws =
     record { n = 2; K = 2; p = p; q = q; g0 = g0; counter = counter; label = label; rankings = rankings; kinds = 0 ∷ 0 ∷ []; draws = draws }
 
--- one in the small group: SHA-256 makes g1 = 3 of a label of 32 zeros and counter 1
+-- draws in the small group: 1 to 10 in turn, again and again, so that any 9 in a row differ
+abbrev pub inTurn : (count : ℕ) → List ℕ
+inTurn count = table count (λ d. d % 10 + 1)
+
+-- a job in it: SHA-256 makes g1 = 3 of a label of 32 zeros and counter 1
 abbrev pub smallJob : Job
-smallJob = circle 23 11 2 1 (replicate 32 0) (replicate 222 5)
+smallJob = circle 23 11 2 1 (replicate 32 0) (inTurn 222)
 
 -- "2,534 bytes, 222 draws", with a kind byte in each BA 2,537 (02, L5), and the verdict that boardcheck prints
 pub record Circle (hash : List ℕ → List ℕ) (job : Job) : Type 0 where
@@ -70,12 +74,13 @@ auditedJob =
       label = replicate 32 0;
       rankings = 1 ∷ 2 ∷ 3 ∷ 2 ∷ 3 ∷ 1 ∷ 3 ∷ 1 ∷ 2 ∷ [];
       kinds = 0 ∷ 1 ∷ 0 ∷ [];
-      draws = replicate 190 5;
+      draws = inTurn 190;
     }
 
 -- what is written for it, and the verdict
 pub record Spot : Type 0 where
   pub valid : Valid sha256 auditedJob
+  pub unrepeated : noRepeat auditedJob ≡ true
   pub size : length (board sha256 auditedJob) ≡ 2224
   pub draws : needed auditedJob ≡ 190
   pub verdict : checkBoard sha256 (board sha256 auditedJob) ≡ accepted 2 (2 ∷ []) 1
@@ -146,6 +151,9 @@ pub record Worked : Type 0 where
   pub made : derived sha256 (replicate 32 0) 23 11 2 1 ≡ 3
   pub small-valid : Valid sha256 smallJob
   pub small-around : Circle sha256 smallJob
+  -- which is written; with all draws equal 20 is due (02, L6)
+  pub small-written : writeOutcome sha256 smallJob 2537 ≡ boardWritten 2537 2 (3 ∷ []) 1
+  pub small-refused : writeOutcome sha256 (circle 23 11 2 1 (replicate 32 0) (replicate 222 5)) 2537 ≡ jobRefused 20 0
   -- one ballot audited
   pub spot : Spot
   -- equal counts

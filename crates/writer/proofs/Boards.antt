@@ -4,8 +4,8 @@ use mathlib.Core.Path.{_≡_, sym, ap, subst, _∙_}
 use mathlib.Core.Bool.{and-eq-true-iff, true}
 use mathlib.Core.List.{List, _++_}
 use native.Mathlib.Omega.{arith}
-use borrow.Author.Tests.{eqb-true, leb-true}
-use lib.Dec.{leb, eqb}
+use borrow.Author.Tests.{eqb-true}
+use lib.Dec.{eqb}
 use lib.ListN.{length, drop, length-append}
 use Rattle.numbers.specs.Below.{concatBelow}
 use Rattle.sha256.specs.Message.{sha256}
@@ -14,7 +14,7 @@ use Rattle.rules.specs.Answers.{withZeros}
 use Rattle.rules.specs.Count.{Result, isRanking}
 use Rattle.jobs.specs.Job.{Job, groupOf, rankingOf, kindOf, countedRankings, needed, boardLength, plainResult, roundDraws, roundAt}
 use Rattle.jobs.specs.Board.{headerBytes, boardBytes, board}
-use Rattle.jobs.specs.Write.{boardWritten, writeOutcome, writeOutput, Valid}
+use Rattle.jobs.specs.Write.{noRepeat, boardWritten, writeOutcome, writeOutput, Valid}
 use Rattle.jobs.specs.Replies.{outcomeOf}
 use Rattle.jobs.specs.declared.Written.{Written}
 use Rattle.rules.proofs.Orders.{orders-of-test}
@@ -30,7 +30,7 @@ use Rattle.boards.specs.Parts.{Writable, Sheeted, roundBytes}
 use Rattle.boards.proofs.Walk.{rounds-are, few-rounds, goes-out, left, struck-below}
 use Rattle.boards.proofs.RoundPlans.{length-rounds, length-header, place-least}
 use Rattle.writer.specs.Steps.{Measured}
-use Rattle.writer.proofs.Outcomes.{Answered}
+use Rattle.writer.proofs.Outcomes.{measured-rounds, enough, Answered}
 
 -- a job with the numbers of a group
 abbrev inGroup : Job → Parameters → Job
@@ -56,9 +56,7 @@ module _ (job : Job) (v : Valid sha256 job) where
   unfolding needed
   able order rounds eo er low =
       let f = fine sha256 job v in
-      let w = and-eq-true-iff (leb (needed job) (length (job .draws))) _ .0 (v .drawn) in
       let d = and-eq-true-iff (eqb (length (job .rankings)) (job .K * job .n)) _ .0 (v .passed .ranked) in
-      let enough : needed job ≤ length (job .draws) = leb-true _ _ (w .0) in
       let q = orders-of-test (job .n) (job .K) (job .p) (job .q) (f .ordered) .prime-q .large in
       let g = good-group sha256 job f in
       rw (eo, er)
@@ -74,7 +72,7 @@ module _ (job : Job) (v : Valid sha256 job) where
               positive = omega arith;
               low = omega (arith, g .small, g .q-below);
               near = omega (arith, rw er at low);
-              enough = omega arith;
+              enough = omega (arith, enough job (v .drawn));
               below = λ i h. f .drawn i (omega arith) .1;
             };
         low = rw er at low;
@@ -107,8 +105,7 @@ module _ (job : Job) (v : Valid sha256 job) where
     rounds = c .count .gone .outs + 1
 
     rounds-counted : rounds ≡ plainResult job .rounds
-    unfolding resultOf
-    rounds-counted = ap (λ (r : Result). r .rounds) (w .counted)
+    rounds-counted = measured-rounds job w
 
     order-counted : c .count .gone .order ≡ withZeros (plainResult job .order)
     unfolding resultOf
@@ -133,11 +130,11 @@ module _ (job : Job) (v : Valid sha256 job) where
         let same : bytesFor job g (c .count .gone .order) rounds ≡ board sha256 job = (λ i. bytesFor job (e i) (order-counted i) (rounds-counted i)) ∙ is-board in
         ap (λ (x : List ℕ). written x o) same ∙ written-at (board sha256 job) o (boardLength job) (ap length (sym is-board) ∙ made-long)
 
-    pub writes : (o o' : List ℕ) (r : Written) → (m .length ≤ length o) × (o' ≡ written (bytesFor job g (c .count .gone .order) rounds) o) →
+    pub writes : noRepeat job ≡ true → (o o' : List ℕ) (r : Written) → (m .length ≤ length o) × (o' ≡ written (bytesFor job g (c .count .gone .order) rounds) o) →
         (outcomeOf r ≡ boardWritten (m .length) rounds (listOf (c .count .gone)) (c .winner)) × (r .order ≡ c .count .gone .order) → Answered job o o' r
     unfolding writeOutcome writeOutput resultOf
-    writes o o' r p t =
-        let none = no-refusal sha256 job (length o) v (omega (arith, w .length)) in
+    writes d o o' r p t =
+        let none = no-refusal sha256 job (length o) v d (omega (arith, w .length)) in
         let same : boardWritten (m .length) rounds (listOf (c .count .gone)) (c .winner) ≡ boardWritten (boardLength job) (plainResult job .rounds) (plainResult job .order) (plainResult job .winner) =
         λ i. boardWritten (w .length i) (w .counted i .rounds) (w .counted i .order) (w .counted i .winner) in
         (rw none (t .0 ∙ same), (rw none (t .1 ∙ order-counted), rw none (p .1 ∙ wrote o)))

@@ -1,10 +1,10 @@
 -- The count, the measure, the draws and the room of a job that passed the tests up to its kinds, and what its reply and its output then are.
 use Prim.Native.Nat.{ℕ, _+_, _*_, _≤_, _<_}
 use mathlib.Core.Path.{_≡_, sym, ap, _∙_}
-use mathlib.Core.Bool.{Bool, false, _&&_, and-eq-true-iff}
+use mathlib.Core.Bool.{Bool, true, false, _&&_, and-eq-true-iff}
 use mathlib.Core.List.{List}
 use native.Mathlib.Omega.{arith}
-use borrow.Author.Tests.{eqb-true, lt-leb}
+use borrow.Author.Tests.{eqb-true, leb-true, lt-leb}
 use lib.Dec.{leb, ltb, eqb}
 use lib.ListN.{length, getD, replicate}
 use Rattle.numbers.specs.Below.{allBelow}
@@ -13,7 +13,7 @@ use Rattle.rules.specs.Header.{ranked}
 use Rattle.rules.specs.Count.{Result}
 use Rattle.rules.specs.Tests.{firstFault}
 use Rattle.jobs.specs.Job.{Job, kindOf, roundDraws, needed, boardLength, plainResult, roundAt}
-use Rattle.jobs.specs.Write.{drawsGood, jobFault, jobRefused, writeOutcome, writeOutput, Passed, Valid}
+use Rattle.jobs.specs.Write.{drawsGood, roundsDifferent, noRepeat, jobFault, jobRefused, writeOutcome, writeOutput, Passed, Valid}
 use Rattle.jobs.specs.Replies.{outcomeOf, orderWritten}
 use Rattle.jobs.specs.declared.Written.{Written}
 use Rattle.parameters.proofs.Rules.{sizes-bounds}
@@ -38,10 +38,20 @@ module _ (job : Job) where
         small = s .2;
       }
 
+  pub measured-rounds : {e : Ended} {m : Measure} → Measured job e m → e .count .gone .outs + 1 ≡ plainResult job .rounds
+  unfolding resultOf
+  measured-rounds w = ap (λ (r : Result). r .rounds) (w .counted)
+
   pub draws-are : (b : Bool) (k : ℕ) → k ≡ needed job →
       b ≡ (leb k (length (job .draws)) && allBelow k (λ d. leb 1 (getD (job .draws) d 0) && ltb (getD (job .draws) d 0) (job .q))) → b ≡ drawsGood job
   draws-are b k e h =
       h ∙ ap (λ (k : ℕ). leb k (length (job .draws)) && allBelow k (λ d. leb 1 (getD (job .draws) d 0) && ltb (getD (job .draws) d 0) (job .q))) e
+
+  pub enough : drawsGood job ≡ true → needed job ≤ length (job .draws)
+  enough h = leb-true _ _ (and-eq-true-iff (leb (needed job) (length (job .draws))) _ .0 h .0)
+
+  pub repeats-are : (b : Bool) (rounds : ℕ) → rounds ≡ plainResult job .rounds → b ≡ roundsDifferent (job .n) (kindOf job) (job .K) rounds (job .draws) → b ≡ noRepeat job
+  repeats-are b rounds e h = h ∙ ap (λ (r : ℕ). roundsDifferent (job .n) (kindOf job) (job .K) r (job .draws)) e
 
   pub measurable : Passed sha256 job → (2 ≤ job .n) × (job .n ≤ 8) × (job .K ≤ 1000) × (job .K * job .n ≤ length (job .rankings)) × (job .K ≤ length (job .kinds))
   measurable t =
@@ -54,11 +64,17 @@ module _ (job : Job) (out : List ℕ) where
   unfolding jobFault firstFault
   stops-draws t e = plainly job out 13 (λ e. omega arith) (rw (t .sized, t .ordered, t .labelled, t .ranked, t .kinds, t .some-counted, e))
 
-  pub stops-room : Valid sha256 job → (k : ℕ) → k ≡ boardLength job → length out < k → Stops job out 15 0
+  pub stops-repeat : Valid sha256 job → noRepeat job ≡ false → Stops job out 20 0
   unfolding jobFault firstFault
-  stops-room v k w h =
+  stops-repeat v e =
       let t = v .passed in
-      plainly job out 14 (λ e. omega arith) (rw (t .sized, t .ordered, t .labelled, t .ranked, t .kinds, t .some-counted, v .drawn, lt-leb (boardLength job) (length out) (omega (arith, w))))
+      plainly job out 19 (λ e. omega arith) (rw (t .sized, t .ordered, t .labelled, t .ranked, t .kinds, t .some-counted, v .drawn, e))
+
+  pub stops-room : Valid sha256 job → noRepeat job ≡ true → (k : ℕ) → k ≡ boardLength job → length out < k → Stops job out 15 0
+  unfolding jobFault firstFault
+  stops-room v d k w h =
+      let t = v .passed in
+      plainly job out 14 (λ e. omega arith) (rw (t .sized, t .ordered, t .labelled, t .ranked, t .kinds, t .some-counted, v .drawn, d, lt-leb (boardLength job) (length out) (omega (arith, w))))
 
 -- what the contract says of a reply, and of the output before and after
 abbrev pub Answered : Job → (o o' : List ℕ) → Written → Type 0

@@ -5,10 +5,12 @@ use count::Count;
 use count::Ended;
 use jobs::Reply;
 use jobs::Written;
+use plain::rounds::Measure;
 use rules::Refusal;
 use statements::Setup;
 use validity::Job;
 use validity::Tested;
+use validity::repeats;
 ghost use mathlib.Core.Path.{_≡_};
 ghost use Prim.Native.Nat.{_+_, _≤_};
 ghost use lib.ListN.{length, replicate};
@@ -48,11 +50,11 @@ fn board_written(ended: Ended, length: usize) -> Written
     }
 }
 
-// What is to be written: the board's header, the count that has ended, and its length.
+// What is to be written: the board's header, the count that has ended, and its measure.
 struct Board {
     head: Head,
     count: Count,
-    length: usize,
+    m: Measure,
 }
 
 // The board, where the output has room for its length.
@@ -65,10 +67,10 @@ fn put_board(
     b: Board,
 ) -> bool
     requires { ⌜ Ready (b .head .setup) × Writable (boardJob (b .head) (now label) (now rankings) (now kinds) (now draws)) (b .count .gone .order) (b .count .gone .outs + 1) × Sheeted (boardJob (b .head) (now label) (now rankings) (now kinds) (now draws)) (b .count) × (length (now label) ≡ 32) ⌝ }
-    requires { ⌜ (headerLength ≤ b .length) × (bytesBefore (boardJob (b .head) (now label) (now rankings) (now kinds) (now draws)) (b .count .gone .outs + 1) ≤ b .length) ⌝ }
-    ensures { λ r. ⌜ Put (b .length) (bytesOf (b .head) (now (label .entry)) (now (rankings .entry)) (now (kinds .entry)) (now (draws .entry)) (b .count .gone .order) (b .count .gone .outs + 1)) (now (out .entry)) (now (out .exit)) r ⌝ }
+    requires { ⌜ (headerLength ≤ b .m .length) × (bytesBefore (boardJob (b .head) (now label) (now rankings) (now kinds) (now draws)) (b .count .gone .outs + 1) ≤ b .m .length) ⌝ }
+    ensures { λ r. ⌜ Put (b .m .length) (bytesOf (b .head) (now (label .entry)) (now (rankings .entry)) (now (kinds .entry)) (now (draws .entry)) (b .count .gone .order) (b .count .gone .outs + 1)) (now (out .entry)) (now (out .exit)) r ⌝ }
 {
-    if out.len() < b.length {
+    if out.len() < b.m.length {
         return false;
     }
     let count = b.count;
@@ -100,6 +102,9 @@ pub fn write(
     if !validity::draws_good(draws, m.needed, job.q) {
         return refused(Refusal::Draws, 0);
     }
+    if !repeats::none_repeats(draws, kinds, job.n, job.k, count.gone.outs + 1) {
+        return refused(Refusal::Repeat, 0);
+    }
     let setup = Setup::new(g);
     let head = Head {
         n: job.n,
@@ -107,11 +112,7 @@ pub fn write(
         counter: job.counter,
         setup,
     };
-    let b = Board {
-        head,
-        count,
-        length: m.length,
-    };
+    let b = Board { head, count, m };
     if !put_board(out, label, rankings, kinds, draws, b) {
         return refused(Refusal::Output, 0);
     }

@@ -49,8 +49,24 @@ def sh_draws(n, R):
     return R * n + (R + 1) * (2 + R * n) + R              # "SH needs Rn + (R+1)(2 + Rn) + R"
 
 
-def draws_needed(n, kinds, rounds):
-    total = len(kinds) * ba_draws(n)
+def matrices(n, kinds, rounds):
+    """Rows of each matrix and draws of its record, in the board's order."""
+    found = [(n, ba_draws(n)) for _ in kinds]
     for m in range(2, rounds + 1):
-        total += counted_of(kinds) * sh_draws(n, rows_of_round(n, m))
-    return total
+        R = rows_of_round(n, m)
+        found += [(R, sh_draws(n, R))] * counted_of(kinds)
+    return found
+
+
+def draws_needed(n, kinds, rounds):
+    return sum(draws for _, draws in matrices(n, kinds, rounds))
+
+
+def x_places(n, kinds, rounds):
+    """Which draws are the x of each matrix, as slices: "Draws are used in board order: per record one
+    x a pair, then per proof and branch" """
+    places, at = [], 0
+    for rows, draws in matrices(n, kinds, rounds):
+        places.append(slice(at, at + rows * n))
+        at += draws
+    return places

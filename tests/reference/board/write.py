@@ -1,11 +1,13 @@
 """write.py - the writer: proofs, records and whole boards made from rankings, kinds and draws.  Words
-in quotation marks are 01's, on kinds 02's."""
+in quotation marks are 01's, on kinds and on repeats 02's."""
+from itertools import combinations
+
 from .group import (Group, g0_holds, g1_holds, group_holds, make_g1, over, pair_of, power,
                     sizes_hold)
 from .plain_count import plain_count
 from .proofs import (Context, be, challenge, column_place, entry_claim, entry_place, line_claim,
                      message, row_place, shift_claim)
-from .sizes import AUDITED, COUNTED, board_length, draws_needed
+from .sizes import AUDITED, COUNTED, board_length, draws_needed, x_places
 
 
 class Draws:
@@ -180,6 +182,15 @@ def write_records(group, n, counter, lists, kinds, count, source):
     return parts
 
 
+def write_board(group, n, counter, lists, kinds, count, draws):
+    """The board, whether or not a matrix uses an x twice: the tests are write's."""
+    source = Draws(draws)
+    board = b''.join(write_records(group, n, counter, lists, kinds, count, source))
+    assert source.used == draws_needed(n, kinds, count[0])
+    assert len(board) == board_length(n, kinds, count[0])
+    return board
+
+
 def ballots_refusal(n, K, rankings, kinds):
     """The number of the first rule of rankings and kinds that these break and what goes with it, or
     None."""
@@ -204,6 +215,13 @@ def draws_hold(draws, needed, q):
     return len(draws) >= needed and all(1 <= d <= q - 1 for d in draws[:needed])
 
 
+def x_repeats(n, kinds, rounds, draws):
+    """"The writer now tests that the x of a matrix are pairwise different.  Across matrices a repeat
+    stays allowed." """
+    drawn = [draws[place] for place in x_places(n, kinds, rounds)]
+    return any(x == y for xs in drawn for x, y in combinations(xs, 2))
+
+
 def write(n, K, p, q, g0, counter, label, rankings, kinds, draws, out_len):
     """rankings: flat list of bytes; kinds: list of bytes, one a ballot; draws: list of 32-bit
     numbers; out_len: length of the lent output.  counter is one byte ("a counter of any value": 0 to
@@ -218,15 +236,14 @@ def write(n, K, p, q, g0, counter, label, rankings, kinds, draws, out_len):
     # "The plain result now concerns counted rankings"
     count = plain_count(n, [ranking for ranking, kind in zip(lists, kinds) if kind == COUNTED])
     rounds, _, outs, winner = count
-    needed = draws_needed(n, kinds, rounds)
-    if not draws_hold(draws, needed, q):
+    if not draws_hold(draws, draws_needed(n, kinds, rounds), q):
         return ('refused', 14, 0)
+    # "It refuses with 20 a repeat, after 14 and before 15."
+    if x_repeats(n, kinds, rounds, draws):
+        return ('refused', 20, 0)
     # "output (15: shorter than the board)."
     if out_len < board_length(n, kinds, rounds):
         return ('refused', 15, 0)
     group = Group(p, q, g0, make_g1(p, q, g0, counter, label), bytes(label))
-    source = Draws(draws)
-    board = b''.join(write_records(group, n, counter, lists, kinds, count, source))
-    assert source.used == needed
-    assert len(board) == board_length(n, kinds, rounds)
+    board = write_board(group, n, counter, lists, kinds, count, draws)
     return ('written', board, rounds, outs, winner)

@@ -8,9 +8,10 @@ BIG = 2 ** 32 - 1
 
 
 class Base:
-    """A written board with its parts.  audited: the numbers of the audited ballots."""
+    """A sound board with its parts; its matrices may use an x twice.  audited: the numbers of the
+    audited ballots."""
 
-    def __init__(self, rng, name, n, lists, group, audited=()):
+    def __init__(self, rng, name, n, lists, group, audited=(), draws='random'):
         self.name, self.n, self.K, self.lists = name, n, len(lists), lists
         self.kinds = gen.audited_at(self.K, *audited)
         self.C = ref.counted_of(self.kinds)
@@ -18,13 +19,10 @@ class Base:
         self.label, self.counter = gen.label_counter(rng, *group)
         self.rounds, self.counts, self.outs, self.winner = ref.plain_count(
             n, gen.counted(lists, self.kinds))
-        draws = gen.make_draws(rng, self.q, ref.draws_needed(n, self.kinds, self.rounds))
+        self.draws = gen.make_draws(rng, self.q, ref.draws_needed(n, self.kinds, self.rounds), draws)
         flat = [x for r in lists for x in r]
-        answer = ref.write(n, self.K, self.p, self.q, self.g0, self.counter, self.label, flat,
-                           self.kinds, draws, 10 ** 9)
-        self.draws = draws
-        assert answer[0] == 'written'
-        self.board = answer[1]
+        self.board = gen.board_of(gen.Job(n, self.K, *group, self.counter, self.label, flat,
+                                          self.kinds, self.draws, 0))
         self.accepted = ('accepted', self.rounds, self.outs, self.winner)
         self.fields = layout(n, self.kinds, self.rounds)
         self.starts = [f.start for f in self.fields if f.kind == 'mark'] + [len(self.board)]

@@ -42,11 +42,11 @@ def lengths():
     assert ref.draws_needed(3, b'\0\1\0', 2) == 3 * 42 + 2 * 32
 
 
-def job_of(kinds, draws=10 ** 3):
+def job_of(kinds):
     rng = random.Random(9)
     label, counter = gen.label_counter(rng, *gen.HOUSE)
     return gen.Job(3, 4, *gen.HOUSE, counter, label, [x for r in LISTS for x in r], kinds,
-                   gen.make_draws(rng, gen.HOUSE[1], draws), 10 ** 5)
+                   gen.different(rng, gen.HOUSE[1], 10 ** 3), 10 ** 5)
 
 
 def counted_alone():
@@ -82,7 +82,7 @@ def named_on_a_board():
     label, counter = gen.label_counter(rng, *gen.HOUSE)
     q = gen.HOUSE[1]
     job = gen.Job(2, 3, *gen.HOUSE, counter, label, [1, 2, 2, 1, 2, 1], b'\0\1\0',
-                  gen.make_draws(rng, q, 60), 10 ** 4)
+                  gen.different(rng, q, 60), 10 ** 4)
     board = ref.write(*job)[1]
     assert len(board) == 54 + 229 + 247 + 229 + 16 and ref.check(board) == ('accepted', 1, [], 1)
     x, ranking = 283 + 229, 283 + 245

@@ -49,14 +49,14 @@ def jobs_by_hand(rng, label, counter):
     assert ref.board_length(3, bytes(3), 2) == 2537 and ref.draws_needed(3, bytes(3), 2) == 222
     q = gen.HOUSE[1]
     job = gen.Job(3, 3, *gen.HOUSE, counter, label, [1, 2, 3, 2, 3, 1, 3, 1, 2], bytes(3),
-                  gen.make_draws(rng, q, 222), 2537)
+                  gen.different(rng, q, 222), 2537)
     answer = ref.write(*job)
     assert answer[0] == 'written' and len(answer[1]) == 2537 and answer[2:] == (2, [3], 1)
     assert ref.write(*job._replace(draws=job.draws[:221])) == ('refused', 14, 0)
     assert ref.write(*job._replace(out_len=2536)) == ('refused', 15, 0)
     # one ranking more each way: 528 bytes
     two = ref.write(2, 2, *gen.HOUSE, counter, label, [1, 2, 2, 1], bytes(2),
-                    gen.make_draws(rng, q, 2 * ref.ba_draws(2)), 528)
+                    gen.different(rng, q, 2 * ref.ba_draws(2)), 528)
     assert two[0] == 'written' and len(two[1]) == 528 and two[2:] == (1, [], 1)
     return answer[1]
 

@@ -1,5 +1,5 @@
-"""jobs.py - jobs worked by hand, and random ones: written, checked and counted in a second way;
-boards made by Craft."""
+"""jobs.py - jobs worked by hand, and random ones: written or refused for a repeat, their boards
+checked and counted in a second way; boards made by Craft."""
 import random
 
 import boardref as ref
@@ -8,6 +8,7 @@ from craft import Craft, permutation_matrix
 from elections import WORKED
 
 from .counts import second_count
+from .repeats import repeated_on
 
 
 def sheets_of(board, n, kinds, rounds):
@@ -38,10 +39,11 @@ def small_group(rng, least_q):
 
 
 def random_job(rng, i):
-    """A job in a small group and its plain count; n is large in one of 60."""
+    """A job in a small group and its plain count; n is large in one of 60.  In some a matrix uses an x
+    twice, in groups with too few numbers in all."""
     n = rng.choice((2, 2, 3, 3, 3, 4, 4, 5)) if i % 60 else rng.randrange(6, 9)
     K = rng.randrange(1, 9 if n < 4 else 7 if n < 6 else 4)
-    p, q, g0 = small_group(rng, max(n, K) + 1)
+    p, q, g0 = small_group(rng, max(rng.choice((n, n * n, n * n)), K) + 1)
     label, counter = gen.label_counter(rng, p, q, g0)
     lists = gen.rankings_of(rng, n, K, rng.choice(gen.STYLES))
     kinds = gen.kinds_of(rng, K, rng.choice(gen.KIND_STYLES))
@@ -50,21 +52,28 @@ def random_job(rng, i):
     assert plain == second_count(n, counted)
     rounds, counts = plain[:2]
     assert all(sum(c) == len(counted) for c in counts)
-    draws = gen.make_draws(rng, q, ref.draws_needed(n, kinds, rounds),
-                           rng.choice(('random', 'random', 'ones', 'tops', 'edges')))
+    style = rng.choice(('random', 'random', 'ones', 'tops', 'edges'))
+    draws = (gen.make_draws(rng, q, ref.draws_needed(n, kinds, rounds), style) if rng.random() < 0.2
+             else gen.job_draws(rng, q, n, kinds, rounds, style))
     flat = [x for r in lists for x in r]
     return gen.Job(n, K, p, q, g0, counter, label, flat, kinds, draws,
                    ref.board_length(n, kinds, rounds)), plain
 
 
 def written_as_counted(job, plain):
-    """The writer's answer, once the checker and the sheets agree with the plain count."""
+    """The writer's answer and the board of its draws, once the checker and the sheets agree with the
+    plain count, and once the answer is 20 where a matrix on the board has two equal Y, else the
+    board."""
     rounds, counts, outs, winner = plain
+    board = gen.board_of(job)
+    assert ref.check(board) == ('accepted', rounds, outs, winner)
+    assert sheets_of(board, job.n, job.kinds, rounds) == (outs + [0], counts)
     answer = ref.write(*job)
-    assert answer[0] == 'written' and answer[2:] == (rounds, outs, winner)
-    assert ref.check(answer[1]) == ('accepted', rounds, outs, winner)
-    assert sheets_of(answer[1], job.n, job.kinds, rounds) == (outs + [0], counts)
-    return answer
+    if repeated_on(board, job.n, job.kinds, rounds):
+        assert answer == ('refused', 20, 0)
+    else:
+        assert answer == ('written', board, rounds, outs, winner)
+    return answer, board
 
 
 def audited_as_given(job, board):
@@ -91,24 +100,26 @@ def worked_jobs():
     rng = random.Random(4)
     for _, n, K, rankings, counts, outs, winner, _ in WORKED:
         if rankings:
-            group = small_group(rng, max(n, K) + 1)
+            group = small_group(rng, max(n * n, K) + 1)
             label, counter = gen.label_counter(rng, *group)
             kinds = bytes(K)
-            draws = gen.make_draws(rng, group[1], ref.draws_needed(n, kinds, len(counts)))
+            draws = gen.job_draws(rng, group[1], n, kinds, len(counts))
             job = gen.Job(n, K, *group, counter, label, [x for r in rankings for x in r], kinds, draws,
                           ref.board_length(n, kinds, len(counts)))
-            written_as_counted(job, (len(counts), counts, outs, winner))
+            answer, _ = written_as_counted(job, (len(counts), counts, outs, winner))
+            assert answer[0] == 'written'
 
 
-def job_varied(rng, job, answer):
-    """Spare draws and room change nothing; a job or a board with one fault is refused."""
+def job_varied(rng, job, answer, board, rounds):
+    """Spare draws and room change nothing; a job with one fault, or with a repeat and another fault, is
+    refused, and a board with one."""
     def written(**changes):
         return ref.write(*job._replace(**changes))
     draws, length, flat = job.draws, job.out_len, job.rankings
-    _, board, rounds, _, _ = answer
-    assert written(draws=draws + [0, 2 ** 32 - 1], out_len=length + 5) == answer
+    assert written(draws=draws + [0, 0, 2 ** 32 - 1], out_len=length + 5) == answer
     assert written(draws=draws[:-1]) == ('refused', 14, 0)
-    assert written(out_len=length - 1) == ('refused', 15, 0)
+    short = ('refused', 15, 0) if answer[0] == 'written' else ('refused', 20, 0)
+    assert written(out_len=length - 1) == written(out_len=0) == short
     place = rng.randrange(len(draws))
     for bad in (0, job.q):
         assert written(draws=draws[:place] + [bad] + draws[place + 1:]) == ('refused', 14, 0)
@@ -135,21 +146,22 @@ def answer_after_flip(rng, board):
 
 def random_jobs(count, seed):
     rng = random.Random(seed)
-    rounds_seen, refusals, audited = {}, {}, 0
+    rounds_seen, refusals, audited, repeats = {}, {}, 0, 0
     for i in range(count):
         job, plain = random_job(rng, i)
-        answer = written_as_counted(job, plain)
-        audited += audited_as_given(job, answer[1])
+        answer, board = written_as_counted(job, plain)
+        repeats += answer[0] == 'refused'
+        audited += audited_as_given(job, board)
         seen = (job.n, plain[0])
         rounds_seen[seen] = rounds_seen.get(seen, 0) + 1
         if i % 10 == 0:
-            job_varied(rng, job, answer)
+            job_varied(rng, job, answer, board, plain[0])
         # a byte changed anywhere never leaves the board accepted (label, frames, pairs, t1 and t2
         # are hashed, all else is bound by an equation) except by luck in a tiny group
-        key = answer_after_flip(rng, answer[1])
+        key = answer_after_flip(rng, board)
         refusals[key] = refusals.get(key, 0) + 1
-    assert audited > count
-    return rounds_seen, refusals, audited
+    assert audited > count and count // 5 < repeats < count // 2, (audited, repeats)
+    return rounds_seen, refusals, audited, repeats
 
 
 def craft_and_write_agree():

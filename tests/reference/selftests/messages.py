@@ -146,7 +146,7 @@ def random_messages(count, seed):
     shifts = 0
     for i in range(count):
         job, (rounds, *_) = random_job(rng, i)
-        second_way(ref.write(*job)[1])
+        second_way(gen.board_of(job))
         shifts += (rounds - 1) * (job.K - sum(job.kinds))
     assert shifts > count // 2
     return shifts

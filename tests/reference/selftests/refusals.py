@@ -42,7 +42,7 @@ def writer_refusals(job):
     for number, changes in ((3, {'n': 9}), (4, {'q': 3}), (5, {'g0': 1}),
                             (13, {'rankings': job.rankings[1:]}), (14, {'draws': []}),
                             (15, {'out_len': 0}), (17, {'kinds': bytes(2)}),
-                            (19, {'kinds': b'\1\1\1'})):
+                            (19, {'kinds': b'\1\1\1'}), (20, {'draws': [1] * 222})):
         assert ref.write(*job._replace(**changes)) == ('refused', number, 0)
     assert ref.write(*job._replace(rankings=[1, 2, 3, 1, 2, 2, 3, 1, 2])) == ('refused', 13, 2)
 

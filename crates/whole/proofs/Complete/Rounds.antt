@@ -10,6 +10,7 @@ use lib.Dec.{eqb}
 use lib.ListN.{length, getD, length-append}
 use borrow.Author.Tests.{eq-eqb}
 use Rattle.numbers.specs.Below.{sumBelow, concatBelow}
+use Rattle.group.specs.Arithmetic.{powMod}
 use Rattle.group.specs.Elements.{Parameters}
 use Rattle.rules.specs.Records.{isCounted, recordLength, sheetLength}
 use Rattle.rules.specs.Count.{Standing, start, next}
@@ -63,6 +64,12 @@ module _ (hash : List ℕ → List ℕ) (job : Job) where
 
     abbrev Short : List ℕ → ℕ → Type 0
     Short gone m = (k : ℕ) → k < job .K → length (remaining gone (rankingOf job k)) ≡ job .n - m
+
+    -- a matrix opens to the list due, and its Y are powers of the job's draws
+    abbrev pub Opened : (m k : ℕ) → Type 0
+    Opened m k =
+        OpensTo g (job .n - m) (job .n) (matrix s h m k) (listAt s (rankingOf job) m k)
+        × ((i j : ℕ) → i < job .n - m → j < job .n → matrix s h m k .y i j ≡ powMod (job .p) (g .g1) (secret job m k i j))
 
     -- what round m left to the next
     pub record Shifted (gone before : List ℕ) (a m : ℕ) : Type 0 where
@@ -201,23 +208,25 @@ module _ (hash : List ℕ → List ℕ) (job : Job) where
             (subst (λ (out : ℕ). roundSheetFault s h m out ≡ 0) (sym out-is) (round-sheet-rules s h m _ .1 sheet-good))
             ∙ rw (round-counts, all-counted)
 
-        -- the matrices of its counted ballots open
-        round-opens : (k : ℕ) → k < job .K → isCounted (kindOf job k) ≡ true → OpensTo g (job .n - m) (job .n) (matrix s h m k) (listAt s (rankingOf job) m k)
+        -- the matrices of its counted ballots open, and to the job's draws
+        round-opens : (k : ℕ) → k < job .K → isCounted (kindOf job k) ≡ true → Opened m k
         unfolding matrixOf
         round-opens k a is-counted =
-            let same = round-records k a .1 is-counted in
-            record {
-              a-row-each = ap length (r .listed k) ∙ r .count .short k a;
-              pairs = λ i j b c. rw (r .listed k) (
-                secret job m k i j,
-                record {
-                  x-below = secret-at hash job f m k in-round a is-counted i j b c .1;
-                  v-below = bit-below (orders-of-test (job .n) (job .K) (job .p) (job .q) (f .ordered)) (eqb (getD (remaining (st .gone) (rankingOf job k)) i 0) (j + 1));
-                  first = same .same-b i j b c;
-                  second = same .same-y i j b c;
-                },
-              );
-            }
+            let same = round-records k a .1 is-counted in (
+              record {
+                a-row-each = ap length (r .listed k) ∙ r .count .short k a;
+                pairs = λ i j b c. rw (r .listed k) (
+                  secret job m k i j,
+                  record {
+                    x-below = secret-at hash job f m k in-round a is-counted i j b c .1;
+                    v-below = bit-below (orders-of-test (job .n) (job .K) (job .p) (job .q) (f .ordered)) (eqb (getD (remaining (st .gone) (rankingOf job k)) i 0) (j + 1));
+                    first = same .same-b i j b c;
+                    second = same .same-y i j b c;
+                  },
+                );
+              },
+              same .same-y,
+            )
 
         sheet-long : (out : ℕ) → length (jobSheet job g m out C) ≡ sheetLength (job .n)
         sheet-long out = length-sheet (job .q) (job .n) (job .K) (kindOf job) (job .draws) (jobDraws job m) m out C
@@ -258,8 +267,7 @@ module _ (hash : List ℕ → List ℕ) (job : Job) where
       -- all rounds, from round m on
       pub rounds : (fuel : ℕ) (st : Standing) (m : ℕ) (before : List ℕ) (a : ℕ) → Reach fuel st m before a →
           (checkFrom hash s h fuel st m a ≡ accepted (plainResult job .rounds) (plainResult job .order) (plainResult job .winner))
-          × ((m' k : ℕ) → m ≤ m' → m' < plainResult job .rounds → k < job .K → isCounted (kindOf job k) ≡ true →
-          OpensTo g (job .n - m') (job .n) (matrix s h m' k) (listAt s (rankingOf job) m' k))
+          × ((m' k : ℕ) → m ≤ m' → m' < plainResult job .rounds → k < job .K → isCounted (kindOf job k) ≡ true → Opened m' k)
       rounds zero st m before a r = absurd (omega (arith, r .count .fuelled, r .count .early))
       rounds (suc fuel) st m before a r =
           by-cases (closing fuel st m before a r)
@@ -268,7 +276,7 @@ module _ (hash : List ℕ → List ℕ) (job : Job) where
             λ m' k l b c d.
                 let one : plainResult job .rounds ≡ length (st .sheets) + 1 = rw (plain-closed job (f .ranked) (r .count) e) in
                 let same : m ≡ m' = omega (arith, r .count .sheeted) in
-                subst (λ m. OpensTo g (job .n - m) (job .n) (matrix s h m k) (listAt s (rankingOf job) m k)) same (round-opens fuel st m before a r k c d),
+                subst (λ m. Opened m k) same (round-opens fuel st m before a r k c d),
           ))
           (λ e.
           let ih = rounds fuel _ (suc m) _ _ (opened fuel st m before a r e) in (
@@ -276,7 +284,7 @@ module _ (hash : List ℕ → List ℕ) (job : Job) where
             λ m' k l b c d.
                 ⊎-elim
                 (λ (q : m ≡ m').
-                subst (λ m. OpensTo g (job .n - m) (job .n) (matrix s h m k) (listAt s (rankingOf job) m k)) q (round-opens fuel st m before a r k c d))
+                subst (λ m. Opened m k) q (round-opens fuel st m before a r k c d))
                 (λ (w : m < m'). ih .1 m' k w b c d)
                 (eq-or-lt-of-le l),
           ))

@@ -23,7 +23,7 @@ use Rattle.jobs.proofs.Rankings.{row-one, column-one}
 use Rattle.jobs.proofs.Lists.{standing-all}
 use Rattle.whole.proofs.Complete.Claims.{prod-powers, prod-pairs, pair-zero, pair-one}
 use Rattle.jobs.specs.Records.{secretAt, opened, matrixOf, lineProver, entryProver, rowProver, columnProver}
-use Rattle.jobs.proofs.Draws.{secrets-within, draws-within, draws-mono}
+use Rattle.jobs.proofs.Draws.{counted-within, draws-within, draws-mono}
 
 -- ballot k's secret in round m at row i, column j
 abbrev pub secret : Job → (m k i j : ℕ) → ℕ
@@ -43,7 +43,7 @@ module _ (hash : List ℕ → List ℕ) (job : Job) (f : Fine hash job) (m k : �
   draw-below e d l q = draw-at e d l q .1
 
   pub secret-at : isCounted (kindOf job k) ≡ true → (i j : ℕ) → i < job .n - m → j < job .n → (1 ≤ secret job m k i j) × (secret job m k i j < job .q)
-  secret-at c i j a b = draw-at (i * job .n + j) _ (le-trans (cell (job .n) (job .n - m) i j a b) (secrets-within (job .n) (kindOf job k) m c)) refl
+  secret-at c i j a b = draw-at (i * job .n + j) _ (le-trans (cell (job .n) (job .n - m) i j a b) (counted-within (job .n) (kindOf job k) m c)) refl
 
 module _ (hash : List ℕ → List ℕ) (job : Job) (f : Fine hash job) (k : ℕ) (in-round : 0 < plainResult job .rounds) (in-ballots : k < job .K) where
   good : Good (groupOf hash job)

@@ -1,5 +1,6 @@
 use Prim.Native.Nat.{ℕ, _+_}
 use mathlib.Core.Path.{_≡_, refl, sym, ap, subst, _∙_}
+use mathlib.Core.Bool.{true}
 use mathlib.Core.List.{List}
 use native.Mathlib.Omega.{arith}
 use borrow.Author.Tests.{not-true, not-false}
@@ -8,14 +9,14 @@ use Rattle.sha256.specs.Message.{sha256}
 use Rattle.group.specs.Elements.{parametersOf}
 use Rattle.jobs.specs.Job as J
 use Rattle.jobs.specs.Job.{groupOf}
-use Rattle.jobs.specs.Write.{drawsGood, Passed, Valid}
+use Rattle.jobs.specs.Write.{drawsGood, noRepeat, Passed, Valid}
 use Rattle.jobs.proofs.FineJob.{fine}
 use Rattle.validity.specs.Jobs.{jobOf}
 use Rattle.validity.specs.Tests.{JobTested}
 use Rattle.validity.specs.declared.Tested.{Tested}
 use Rattle.validity.proofs.Tests.{group-positive}
 use Rattle.writer.specs.Steps.{Measured, Put}
-use Rattle.writer.proofs.Outcomes.{measurable, measured, draws-are, stops-draws, stops-room, refuses}
+use Rattle.writer.proofs.Outcomes.{measurable, measured, measured-rounds, draws-are, enough, repeats-are, stops-draws, stops-repeat, stops-room, refuses}
 use Rattle.writer.proofs.Boards.{bytesFor, can, sheeted, room, writes}
 use borrow.Author.Needs.{needs}
 use Rattle.writer.proofs.write.Statement.{statement}
@@ -51,8 +52,18 @@ draws-told c = draws-are (job (passed (c .before))) _ _ (measured-is (c .before)
 fair : (c : tie.Else1) → Valid sha256 (job (passed (c .before .before)))
 fair c = record { passed = sound (passed (c .before .before)) .0; drawn = sym (draws-told (c .before)) ∙ not-false _ (c .if1 .left) }
 
-group-is : (c : tie.After-new) → parametersOf (c .new .result .group) ≡ groupOf sha256 (job (passed (c .before .before .before)))
-group-is c = ap parametersOf (c .new .ensures .0) ∙ sound (passed (c .before .before .before)) .1
+-- no x repeats
+abbrev drawn : tie.After-none-repeats → tie.Else1
+drawn c = c .before .before
+
+repeats-told : (c : tie.After-none-repeats) → c .none-repeats .result ≡ noRepeat (job (passed (drawn c .before .before)))
+repeats-told c = let m = drawn c .before .before in repeats-are (job (passed m)) _ _ (measured-rounds (job (passed m)) (measured-is m)) (c .none-repeats .ensures)
+
+apart : (c : tie.Else2) → noRepeat (job (passed (drawn (c .before) .before .before))) ≡ true
+apart c = sym (repeats-told (c .before)) ∙ not-false _ (c .if2 .left)
+
+group-is : (c : tie.After-new) → parametersOf (c .new .result .group) ≡ groupOf sha256 (job (passed (drawn (c .before .before) .before .before)))
+group-is c = ap parametersOf (c .new .ensures .0) ∙ sound (passed (drawn (c .before .before) .before .before)) .1
 
 returns : tie.Need-returns
 unfolding JobTested
@@ -67,11 +78,29 @@ returns-2 c =
     let bad = sym (draws-told d) ∙ not-true _ (c .before .if1 .taken) in
     refuses (job t) _ _ (c .refused2 .result) 14 0 (stops-draws (job t) _ (sound t .0) bad) (c .refused2 .ensures) refl
 
+none-repeats-requires : tie.Need-none-repeats-requires
+none-repeats-requires c κs =
+    let m = c .before .before .before in
+    let t = passed m in
+    let w = measurable (job t) (sound t .0) in (
+      w .1,
+      omega (arith, m .before .before .before .count .ensures .2),
+      w .4,
+      omega (arith, m .measure-of .ensures .0, measured-is m .needed, enough (job t) (fair (c .before) .drawn)),
+    )
+
+returns-3 : tie.Need-returns-3
+returns-3 c =
+    let r = c .before .before in
+    let j = job (passed (drawn r .before .before)) in
+    refuses j _ _ (c .refused3 .result) 20 0 (stops-repeat j _ (fair (drawn r)) (sym (repeats-told r) ∙ not-true _ (c .before .if2 .taken))) (c .refused3 .ensures) refl
+
 put-board-requires : tie.Need-put-board-requires
 put-board-requires c κs =
     let n = c .before in
-    let v = fair (n .before) in
-    let m = n .before .before .before in
+    let d = drawn (n .before .before) in
+    let v = fair d in
+    let m = d .before .before in
     let j = job (passed m) in (
       (n .new .ensures .1, can j v _ _ (measured-is m) _ (group-is n), sheeted j v _ _ (measured-is m) _ (group-is n), fine sha256 j v .labelled),
       room j v _ _ (measured-is m) _ (group-is n),
@@ -79,32 +108,35 @@ put-board-requires c κs =
 
 -- where the board was to be put
 module _ (c : tie.After-put-board) where
+  abbrev unrepeated : tie.Else2
+  unrepeated = c .before .before .before
+
   abbrev at : tie.After-measure-of
-  at = c .before .before .before .before .before
+  at = drawn (unrepeated .before) .before .before
 
   abbrev bytes : List ℕ
   bytes =
       let g = at .before .before .before .count .result .count .gone in
       bytesFor (job (passed at)) (parametersOf (c .before .before .new .result .group)) (g .order) (g .outs + 1)
 
-returns-3 : tie.Need-returns-3
-returns-3 c =
-    let p = c .before .before .before .before in
-    let j = job (passed (at p)) in
-    let w = subst (Put _ (bytes p) _ _) (not-true (p .put-board .result) (c .before .if2 .taken)) (p .put-board .ensures) in
-    refuses j _ _ (c .refused3 .result) 15 0 (stops-room j _ (fair (p .before .before .before)) _ (measured-is (at p) .length) (w .0)) (c .refused3 .ensures) (w .1)
-
 returns-4 : tie.Need-returns-4
 returns-4 c =
     let p = c .before .before .before .before in
-    let w = subst (Put _ (bytes p) _ _) (not-false (p .put-board .result) (c .before .if2 .left)) (p .put-board .ensures) in
-    writes (job (passed (at p))) (fair (p .before .before .before)) _ _ (measured-is (at p)) _ (group-is (p .before .before)) _ _
+    let j = job (passed (at p)) in
+    let w = subst (Put _ (bytes p) _ _) (not-true (p .put-board .result) (c .before .if3 .taken)) (p .put-board .ensures) in
+    refuses j _ _ (c .refused4 .result) 15 0 (stops-room j _ (fair (drawn (unrepeated p .before))) (apart (unrepeated p)) _ (measured-is (at p) .length) (w .0)) (c .refused4 .ensures) (w .1)
+
+returns-5 : tie.Need-returns-5
+returns-5 c =
+    let p = c .before .before .before .before in
+    let w = subst (Put _ (bytes p) _ _) (not-false (p .put-board .result) (c .before .if3 .left)) (p .put-board .ensures) in
+    writes (job (passed (at p))) (fair (drawn (unrepeated p .before))) _ _ (measured-is (at p)) _ (group-is (p .before .before)) (apart (unrepeated p)) _ _
     (c .board-written .result) w (c .board-written .ensures)
 
 pub write-spec : {M : Type 1} → statement M
 write-spec = tie.close (tie.spec (λ c κs. search needs) (λ c. search needs) (λ c. search needs) (λ c κs. search needs) returns
     (λ c κs. measurable (job c) (sound c .0)) (λ c. search needs)
     (λ c κs. let t = c .before .before .before in let w = measurable (job t) (sound t .0) in (w .1, omega (arith, c .before .before .count .ensures .2), w .2, w .4))
-    (λ c κs. search needs) (λ c κs. search needs) returns-2
-    (λ c κs. let t = passed (c .before .before) in group-positive (job t) _ (sound t .1) (sound t .0 .ordered)) put-board-requires (λ c κs. search needs)
-    (λ c. search needs) returns-3 (λ c κs. measured-is (at (c .before .before .before)) .kept) (λ c. search needs) returns-4)
+    (λ c κs. search needs) (λ c κs. search needs) returns-2 (λ c. search needs) none-repeats-requires (λ c κs. search needs) returns-3
+    (λ c κs. let t = passed (drawn (c .before) .before .before) in group-positive (job t) _ (sound t .1) (sound t .0 .ordered)) put-board-requires (λ c κs. search needs)
+    (λ c. search needs) returns-4 (λ c κs. measured-is (at (c .before .before .before)) .kept) (λ c. search needs) returns-5)
