@@ -21,28 +21,28 @@ extern "C" {
 /* The functions return 0, or a refusal: the number of the first rule that is broken, and 256 times
  * the record (or the ranking) that goes with it. These are the numbers. */
 enum gooseoften_refusal {
-    GOOSEOFTEN_LENGTH = 1,       /* bytes left are fewer than the record's length */
-    GOOSEOFTEN_MARK = 2,         /* the mark differs from the one due */
-    GOOSEOFTEN_SIZES = 3,        /* n or K is out of range */
-    GOOSEOFTEN_ORDERS = 4,       /* a rule on p and q is broken */
-    GOOSEOFTEN_GENERATORS = 5,   /* a rule on g0 or g1 is broken; of a job, or the label's length */
-    GOOSEOFTEN_NUMBER = 6,       /* the number or the round is not the one due */
-    GOOSEOFTEN_FIELD = 7,        /* a field is no group element, or not below q */
-    GOOSEOFTEN_PROOF = 8,        /* a proof fails */
-    GOOSEOFTEN_COUNT = 9,        /* a count is above the number of counted ballots */
-    GOOSEOFTEN_TALLY = 10,       /* a tally equation fails */
-    GOOSEOFTEN_OUT = 11,         /* out is not the one due */
-    GOOSEOFTEN_REMAIN = 12,      /* bytes remain after the closing sheet */
-    GOOSEOFTEN_RANKINGS = 13,    /* the rankings' length is wrong, or a ranking lacks a process */
-    GOOSEOFTEN_DRAWS = 14,       /* draws are too few, or one is outside 1 to q - 1 */
-    GOOSEOFTEN_OUTPUT = 15,      /* out or found is shorter than what is to be written */
-    GOOSEOFTEN_DIGESTS = 16,     /* the digests are more than 500, out of order, or no multiple of 32
-                                    bytes */
-    GOOSEOFTEN_KIND = 17,        /* a ballot's kind is neither counted nor audited; of a job, or the
-                                    kinds are not one a ballot */
-    GOOSEOFTEN_OPENING = 18,     /* an audited ballot does not open to what it shows */
+    GOOSEOFTEN_LENGTH = 1,        /* bytes left are fewer than the record's length */
+    GOOSEOFTEN_MARK = 2,          /* the mark differs from the one due */
+    GOOSEOFTEN_SIZES = 3,         /* n or K is out of range */
+    GOOSEOFTEN_ORDERS = 4,        /* a rule on p and q is broken */
+    GOOSEOFTEN_GENERATORS = 5,    /* a rule on g0 or g1 is broken; of a job, or the label's length */
+    GOOSEOFTEN_NUMBER = 6,        /* the number or the round is not the one due */
+    GOOSEOFTEN_FIELD = 7,         /* a field is no group element, or not below q */
+    GOOSEOFTEN_PROOF = 8,         /* a proof fails */
+    GOOSEOFTEN_COUNT = 9,         /* a count is above the number of counted ballots */
+    GOOSEOFTEN_TALLY = 10,        /* a tally equation fails */
+    GOOSEOFTEN_OUT = 11,          /* out is not the one due */
+    GOOSEOFTEN_REMAIN = 12,       /* bytes remain after the closing sheet */
+    GOOSEOFTEN_RANKINGS = 13,     /* the rankings' length is wrong, or a ranking lacks a process */
+    GOOSEOFTEN_DRAWS = 14,        /* draws are too few, or one is outside 1 to q - 1 */
+    GOOSEOFTEN_OUTPUT = 15,       /* out or found is shorter than what is to be written */
+    GOOSEOFTEN_DIGESTS = 16,      /* the digests are more than 500, out of order, or no multiple of 32
+                                     bytes */
+    GOOSEOFTEN_KIND = 17,         /* a ballot's kind is neither counted nor audited; of a job, or the
+                                     kinds are not one a ballot */
+    GOOSEOFTEN_OPENING = 18,      /* an audited ballot does not open to what it shows */
     GOOSEOFTEN_NONE_COUNTED = 19, /* no ballot is counted */
-    GOOSEOFTEN_REPEAT = 20       /* of a job: two x of a matrix are equal */
+    GOOSEOFTEN_REPEAT = 20        /* of a job: two x of a matrix are equal */
 };
 
 static inline size_t gooseoften_refusal_number(size_t code)

@@ -1,7 +1,7 @@
 -- What the tests of a record's frame tell.
 use Prim.Native.Nat.{ℕ, _+_, _≤_, _<_}
 use mathlib.Core.Path.{_≡_, sym}
-use mathlib.Core.Bool.{true, false, _||_}
+use mathlib.Core.Bool.{true, false}
 use mathlib.Core.List.{List, _∷_}
 use mathlib.Core.Logic.{⊎-elim}
 use native.Mathlib.Nat.{eq-or-lt-of-le}
@@ -9,12 +9,13 @@ use native.Mathlib.Omega.{arith}
 use lib.ListN.{length, List·getD-eq-default}
 use borrow.Author.Tests.{le-leb, lt-leb, eq-eqb, ne-eqb}
 use Rattle.rules.specs.Bytes.{number2}
-use Rattle.rules.specs.Records.{BA, hasMark, kindAt, isCounted, isAudited, ballotLength}
+use Rattle.rules.specs.Records.{BA, hasMark, kindAt, ballotLength}
 use Rattle.rules.specs.Tests.{firstFault}
 use Rattle.rules.specs.declared.Refusal.{Refusal}
 use Rattle.rules.specs.declared.Refusal.the-variants.{Length, Mark, Number, Kind}
 use Rattle.frames.specs.declared.Fault.the-variants.{Sound, Refused}
-use Rattle.frames.specs.Framed.{Begun, Framed, BallotFramed, kindTest}
+use Rattle.rules.specs.Ballot.{kindTest}
+use Rattle.frames.specs.Framed.{Begun, Framed, BallotFramed}
 
 module _ (s : List ℕ) (at size : ℕ) (mark : List ℕ) where
   pub begun-short : length s < at + size → Begun s at size mark (Refused Length)

@@ -1,13 +1,14 @@
 -- What the tests of a record's frame tell.
 use Prim.Native.Nat.{ℕ, _+_, _≤_}
 use mathlib.Core.Path.{_≡_}
-use mathlib.Core.Bool.{true, _||_}
+use mathlib.Core.Bool.{true}
 use mathlib.Core.List.{List, [], _∷_, _++_}
 use lib.Dec.{eqb}
 use lib.ListN.{length}
 use Rattle.rules.specs.Bytes.{number2}
-use Rattle.rules.specs.Records.{BA, hasMark, kindAt, isCounted, isAudited, ballotLength}
-use Rattle.rules.specs.Tests.{Test, firstFault, _orElse_, frame}
+use Rattle.rules.specs.Records.{BA, hasMark, kindAt, ballotLength}
+use Rattle.rules.specs.Ballot.{kindTest}
+use Rattle.rules.specs.Tests.{Test, firstFault, frame}
 use Rattle.rules.specs.Answers.{refusalNumber}
 use Rattle.frames.specs.declared.Fault.{Fault}
 use Rattle.frames.specs.declared.Fault.the-variants.{Sound, Refused}
@@ -18,12 +19,9 @@ Framed s at size mark shown due Sound = (at + size ≤ length s) × (hasMark s a
 Framed s at size mark shown due (Refused w) = (rest : List Test) → firstFault (frame s at size mark shown due ++ rest) ≡ refusalNumber w
 
 -- that of a BA record, with its kind
-abbrev pub kindTest : (s : List ℕ) (at : ℕ) → Test
-kindTest s at = (isCounted (kindAt s at) || isAudited (kindAt s at)) orElse 17
-
 unfoldable pub BallotFramed : (s : List ℕ) (at n due : ℕ) → Fault → Type 0
 BallotFramed s at n due Sound =
-    Framed s at (ballotLength n (kindAt s at)) BA (number2 s (at + 2)) due Sound × ((isCounted (kindAt s at) || isAudited (kindAt s at)) ≡ true)
+    Framed s at (ballotLength n (kindAt s at)) BA (number2 s (at + 2)) due Sound × (kindTest s at .holds ≡ true)
 BallotFramed s at n due (Refused w) =
     (rest : List Test) → firstFault (frame s at (ballotLength n (kindAt s at)) BA (number2 s (at + 2)) due ++ (kindTest s at ∷ []) ++ rest) ≡ refusalNumber w
 

@@ -1,4 +1,4 @@
--- Draws that are pairwise different, and jobs none of whose matrices repeats one.
+-- Draws that are pairwise different.
 use Prim.Native.Nat.{ℕ, _+_, _<_}
 use mathlib.Core.Path.{_≡_, sym, _∙_}
 use mathlib.Core.Bool.{true, false, not, true≢false}

@@ -4,6 +4,7 @@ use mathlib.Core.Path.{_≡_, refl}
 use native.Mathlib.Omega.{arith}
 use borrow.Author.Tests.{eq-eqb, ne-eqb}
 use Rattle.rules.specs.Records.{recordsOf, pairsFrom, countedLength, auditLength, recordLength, ballotLength, shiftLength}
+use Rattle.rules.proofs.Positions.{has-first, counted-has}
 
 pub length-audited : (n kind : ℕ) → kind ≡ 1 → countedLength n + auditLength n ≡ ballotLength n kind
 length-audited n kind e = rw (eq-eqb kind 1 e)
@@ -26,13 +27,10 @@ length-none n kind zero h c = absurd (h refl)
 length-none n kind (suc m) h c = rw (ne-eqb kind 0 c)
 
 pub one-first : (kind m : ℕ) → m ≡ 0 → recordsOf kind m ≡ 1
-unfolding recordsOf
-one-first kind m e = rw e
+one-first kind m e = rw e (has-first kind)
 
 pub one-counted : (kind m : ℕ) → kind ≡ 0 → recordsOf kind m ≡ 1
-unfolding recordsOf
-one-counted kind zero c = refl
-one-counted kind (suc m) c = rw (eq-eqb kind 0 c)
+one-counted kind m c = counted-has kind m (eq-eqb kind 0 c)
 
 pub none-later : (kind m : ℕ) → (m ≡ 0 → ⊥) → (kind ≡ 0 → ⊥) → recordsOf kind m ≡ 0
 unfolding recordsOf

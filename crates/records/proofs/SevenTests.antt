@@ -12,7 +12,8 @@ use Rattle.rules.specs.declared.Refusal.{Refusal}
 use Rattle.rules.specs.declared.Refusal.the-variants.{Field, Proof, Opening}
 use Rattle.frames.specs.declared.Fault.the-variants.{Sound, Refused}
 use Rattle.records.specs.declared.Passed.the-variants as P
-use Rattle.frames.specs.Framed.{Framed, BallotFramed, kindTest}
+use Rattle.rules.specs.Ballot.{kindTest}
+use Rattle.frames.specs.Framed.{Framed, BallotFramed}
 use Rattle.records.specs.Passes.{Passes}
 
 pub record SevenTests (s : List ℕ) (at n due : ℕ) (fields proofs shown : Bool) (fault : ℕ) : Type 0 where

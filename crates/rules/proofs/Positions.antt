@@ -1,7 +1,7 @@
 -- Laws of the positions that a board is read from.
 use Prim.Native.Nat.{ℕ, zero, suc, _+_, _*_, _-_, _≤_, _<_}
 use mathlib.Core.Path.{_≡_, refl, ap, _∙_}
-use mathlib.Core.Bool.{Bool, true, false, cond}
+use mathlib.Core.Bool.{true, cond}
 use mathlib.Core.List.{List}
 use mathlib.Core.Logic.{⊎-elim}
 use native.Mathlib.Nat.{eq-or-lt-of-le, le-of-suc-le-suc}
@@ -9,11 +9,25 @@ use native.Mathlib.Omega.{arith}
 use Rattle.numbers.specs.Below.{sumBelow, prodBelow}
 use Rattle.numbers.proofs.Tests.{by-cases}
 use Rattle.numbers.proofs.Sums.{few-picked}
-use Rattle.rules.specs.Records.{headerLength, isCounted, recordsOf, recordLength, sheetLength, pairsFrom}
+use Rattle.rules.specs.Records.{isCounted, recordsOf, recordLength, sheetLength, pairsFrom}
 use Rattle.rules.specs.Claims.{Matrix}
 use Rattle.rules.specs.Sheet.{Tally, noRow, withRow}
 use Rattle.rules.specs.Header.{Header}
 use Rattle.rules.specs.Check.{Position, pastHeader, pastRecord, pastSheet, ballotsRead, shiftsRead, position, place, pairsPlace, recordNumber, matrix, kind, countedBelow, counted}
+
+-- who has a record in a round: every ballot in the first, in each further one the counted ones
+pub has-first : (kind : ℕ) → recordsOf kind 0 ≡ 1
+unfolding recordsOf
+has-first kind = refl
+
+pub counted-has : (kind m : ℕ) → isCounted kind ≡ true → recordsOf kind m ≡ 1
+unfolding recordsOf
+counted-has kind zero c = refl
+counted-has kind (suc m) c = rw c
+
+pub has-counted : (kind m : ℕ) → recordsOf kind (suc m) ≡ 1 → isCounted kind ≡ true
+unfolding recordsOf
+has-counted kind m e = by-cases (isCounted kind) (λ c. c) (λ c. absurd (omega (arith, rw c at e)))
 
 -- the record of a counted ballot holds its pairs
 pub holds-pairs : (n kind m at : ℕ) → isCounted kind ≡ true → pairsFrom m at + 8 * ((n - m) * n) ≤ at + recordLength n kind m

@@ -51,13 +51,15 @@ module _ (n : ℕ) where
 abbrev pub ballotContext : (number place : ℕ) → Context
 ballotContext number place = record { mark = BA; number = number; round = 1; place = place }
 
+-- 17: "another kind (after 6 ..)"
+abbrev pub kindTest : (s : List ℕ) (at : ℕ) → Test
+kindTest s at = (isCounted (kindAt s at) || isAudited (kindAt s at)) orElse 17
+
 module _ (s : List ℕ) (h : Header) (at : ℕ) where
   -- 1, 2 and 6: "The length test reads up to the kind byte first"; with fewer than 5 bytes left the kind reads as 0, and the length is more than 5.
-  -- 17: "another kind (after 6 ..)"
   abbrev pub ballotFrame : (number : ℕ) → List Test
   ballotFrame number =
-      frame s at (ballotLength (h .n) (kindAt s at)) BA (number2 s (at + 2)) number
-      ++ (((isCounted (kindAt s at) || isAudited (kindAt s at)) orElse 17) ∷ [])
+      frame s at (ballotLength (h .n) (kindAt s at)) BA (number2 s (at + 2)) number ++ (kindTest s at ∷ [])
 
   -- 7: "fields left to right: no group element (b, Y, t1, t2), or s, e, r ≥ q"; of an audited record also "x ≥ q"
   unfoldable pub ballotFields : Bool

@@ -3,7 +3,7 @@ use Prim.Native.Nat.{ℕ, zero, suc, _+_, _*_, _-_, _≤_, _<_, zero-le}
 use mathlib.Core.Path.{_≡_, refl, sym, ap, subst⁻¹, _∙_}
 use mathlib.Core.Bool.{true, false, true≢false}
 use mathlib.Core.List.{List, [], _∷_}
-use native.Mathlib.Nat.{mul-le-mul-right, mod-eq-of-lt, sub-zero, le-trans}
+use native.Mathlib.Nat.{mul-le-mul-right, mod-eq-of-lt, sub-zero}
 use native.Mathlib.Omega.{arith}
 use lib.Dec.{ltb, eqb}
 use lib.ListN.{length}
@@ -16,7 +16,7 @@ use Rattle.rules.specs.Records.{recordsOf}
 use Rattle.rules.specs.Count.{member}
 use Rattle.rules.specs.Header.{Header}
 use Rattle.rules.specs.Tests.{firstFault}
-use Rattle.rules.specs.Check.{kind, matrix}
+use Rattle.rules.specs.Check.{matrix}
 use Rattle.rules.proofs.Faults.{fault-cases, fault-none}
 use Rattle.rules.proofs.Lists.{member-append}
 use Rattle.rules.proofs.Orders.{orders-of-test, generators-of-test}
@@ -24,14 +24,16 @@ use Rattle.jobs.specs.Job.{Job, groupOf, headerOf, kindOf, recordSecrets, draw,
 use Rattle.jobs.specs.Board.{jobDraws, board}
 use Rattle.jobs.specs.Records.{matrixOf}
 use Rattle.jobs.specs.Write.{different, noRepeat, Valid, jobFault, badRanking, jobRefused, writeOutcome, writeOutput}
-use Rattle.jobs.proofs.Draws.{secrets-within, secrets-are, has-counted}
+use Rattle.rules.proofs.Positions.{has-first, has-counted}
+use Rattle.jobs.proofs.Draws.{secrets-within, secrets-are}
 use Rattle.jobs.proofs.FineJob.{Fine, fine, fault-by}
 use Rattle.jobs.proofs.Repeats.{different-at, different-fails, different-same, one-repeats}
+use Rattle.whole.specs.SecondDemand.{HasRecord}
 use Rattle.whole.specs.Repeats.{Repeat, DifferentY, Repeats}
 use Rattle.whole.proofs.Complete.{header-same, kinds-same, ballot-stands, begun, in-first}
 use Rattle.whole.proofs.Complete.BallotRecord.{ballot-matrix}
 use Rattle.whole.proofs.Complete.Rounds.{rounds}
-use Rattle.whole.proofs.Complete.Written.{secret, cell, draw-at}
+use Rattle.whole.proofs.Complete.Written.{secret, draw-at, in-matrix, secret-at}
 
 -- ---- the test, said of two draws
 module _ (job : Job) where
@@ -66,11 +68,10 @@ module _ (hash : List ℕ → List ℕ) (job : Job) where
 
   -- the first ballot's matrix has n² x, each from 1 to q - 1
   first-many : Valid hash job → noRepeat job ≡ true → job .n * job .n ≤ job .q - 1
-  unfolding recordsOf
   first-many v h =
       let f = fine hash job v in
       let first = in-first hash job f in
-      let size : recordSecrets (job .n) (kindOf job 0) 0 ≡ job .n * job .n = secrets-are (job .n) (kindOf job 0) 0 refl ∙ rw sub-zero in
+      let size : recordSecrets (job .n) (kindOf job 0) 0 ≡ job .n * job .n = secrets-are (job .n) (kindOf job 0) 0 (has-first (kindOf job 0)) ∙ rw sub-zero in
       let alone = rw size at (apart job h 0 0 first (f .K-low)) in
       different-few (job .n * job .n) (job .q - 1) (λ i. draw job (jobDraws job 0 0 + i))
       (λ i l. let w = draw-at hash job f 0 0 first (f .K-low) i _ (omega (arith, secrets-within (job .n) (kindOf job 0) 0, size)) refl in (w .0, omega (arith, w .1)))
@@ -129,24 +130,22 @@ module _ (hash : List ℕ → List ℕ) (job : Job) (f : Fine hash job) where
       cc (same-exponent (job .p) (job .q) (groupOf hash job .g1) (w .order1) (o .prime-q) (w .apart1) x x′ e, mod-eq-of-lt a, mod-eq-of-lt b)
 
   module _ (unrepeated : noRepeat job ≡ true) (m k : ℕ) (a : m < plainResult job .rounds) (b : k < job .K) (has : recordsOf (kindOf job k) m ≡ 1) where
-    inside : (i j : ℕ) → i < job .n - m → j < job .n → i * job .n + j < recordSecrets (job .n) (kindOf job k) m
-    inside i j c d = omega (arith, cell (job .n) (job .n - m) i j c d, secrets-are (job .n) (kindOf job k) m has)
-
     below : (i j : ℕ) → i < job .n - m → j < job .n → secret job m k i j < job .q
-    below i j c d = draw-at hash job f m k a b (i * job .n + j) _ (le-trans (inside i j c d) (secrets-within (job .n) (kindOf job k) m)) refl .1
+    below i j c d = secret-at hash job f m k a b has i j c d .1
 
     different-Y-at : (i j i′ j′ : ℕ) → i < job .n - m → j < job .n → i′ < job .n - m → j′ < job .n → matrix s h m k .y i j ≡ matrix s h m k .y i′ j′ → (i ≡ i′) × (j ≡ j′)
     different-Y-at i j i′ j′ c d c′ d′ e =
         let x = one-power (secret job m k i j) (secret job m k i′ j′) (below i j c d) (below i′ j′ c′ d′) (sym (power m k a b has i j c d) ∙ e ∙ power m k a b has i′ j′ c′ d′) in
         same-place (job .n) i j i′ j′ d d′
-        (different-same (job .draws) (jobDraws job m k) (recordSecrets (job .n) (kindOf job k) m) (apart job unrepeated m k a b) (i * job .n + j) (i′ * job .n + j′) (inside i j c d) (inside i′ j′ c′ d′) x)
+        (different-same (job .draws) (jobDraws job m k) (recordSecrets (job .n) (kindOf job k) m) (apart job unrepeated m k a b) (i * job .n + j) (i′ * job .n + j′) (in-matrix hash job f m k a b has i j c d)
+        (in-matrix hash job f m k a b has i′ j′ c′ d′) x)
 
 different-Y : (hash : List ℕ → List ℕ) (job : Job) → Valid hash job → noRepeat job ≡ true → DifferentY (board hash job) (plainResult job .rounds)
 different-Y hash job v d =
     let f = fine hash job v in
     let s = board hash job in
     subst⁻¹
-    (λ (h : Header). (m k : ℕ) → m < plainResult job .rounds → k < h .K → recordsOf (kind s h k) m ≡ 1 →
+    (λ (h : Header). (m k : ℕ) → m < plainResult job .rounds → k < h .K → HasRecord s h m k →
     (i j i′ j′ : ℕ) → i < h .n - m → j < h .n → i′ < h .n - m → j′ < h .n → matrix s h m k .y i j ≡ matrix s h m k .y i′ j′ → (i ≡ i′) × (j ≡ j′))
     (header-same hash job f) (λ m k a b has. different-Y-at hash job f d m k a b (rw (kinds-same hash job f k b) at has))
 

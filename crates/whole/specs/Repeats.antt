@@ -5,13 +5,13 @@ use mathlib.Core.Logic.{_↔_}
 use mathlib.Core.Bool.{true}
 use mathlib.Core.List.{List, [], _∷_}
 use lib.ListN.{length}
-use Rattle.rules.specs.Records.{recordsOf}
 use Rattle.rules.specs.Count.{member}
 use Rattle.rules.specs.Header.{header}
-use Rattle.rules.specs.Check.{kind, matrix}
+use Rattle.rules.specs.Check.{matrix}
 use Rattle.jobs.specs.Job.{Job, recordSecrets, kindOf, draw, plainResult}
 use Rattle.jobs.specs.Board.{jobDraws, board}
 use Rattle.jobs.specs.Write.{noRepeat, Valid, jobFault, jobRefused, writeOutcome, writeOutput}
+use Rattle.whole.specs.SecondDemand.{HasRecord}
 
 -- two x of the matrix that a ballot has in a round of the board are equal; rounds, ballots and draws from 0
 pub record Repeat (job : Job) : Type 0 where
@@ -28,7 +28,7 @@ pub record Repeat (job : Job) : Type 0 where
 -- no two pairs of a matrix on a board of so many rounds share a Y: those of every BA, audited ones too, and of every SH
 abbrev pub DifferentY : (s : List ℕ) (rounds : ℕ) → Type 0
 DifferentY s rounds =
-    (m k : ℕ) → m < rounds → k < header s .K → recordsOf (kind s (header s) k) m ≡ 1 →
+    (m k : ℕ) → m < rounds → k < header s .K → HasRecord s (header s) m k →
     (i j i′ j′ : ℕ) → i < header s .n - m → j < header s .n → i′ < header s .n - m → j′ < header s .n →
     matrix s (header s) m k .y i j ≡ matrix s (header s) m k .y i′ j′ → (i ≡ i′) × (j ≡ j′)
 

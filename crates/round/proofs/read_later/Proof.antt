@@ -1,9 +1,8 @@
 use denote.Ref.{now}
 use Prim.Native.Nat.{suc, _+_, _-_}
-use mathlib.Core.Path.{_≡_, sym, ap, _∙_}
+use mathlib.Core.Path.{_≡_, _∙_}
 use mathlib.Core.Bool.{true}
 use native.Mathlib.Omega.{arith}
-use borrow.Author.Needs.{needs}
 use borrow.Author.Tests.{eq-eqb, ne-eqb}
 use Rattle.rules.specs.Records.{isCounted}
 use Rattle.rules.specs.Check.{kind}
@@ -14,8 +13,8 @@ use Rattle.round.proofs.read_later.Statement.{statement}
 use Rattle.round.proofs.read_later.Tie as tie
 
 -- the kind that was read
-read-kind : (c : tie.After-kind) → let a = c .before .before .args in c .kind .result ≡ kind (now (a .board)) (headOf (now (a .board)) (a .h)) (a .walk .k)
-read-kind c =
+kind-of : (c : tie.After-kind) → let a = c .before .before .args in c .kind .result ≡ kind (now (a .board)) (headOf (now (a .board)) (a .h)) (a .walk .k)
+kind-of c =
     let s = c .before .before in
     kind-read (now (s .args .board)) (s .args .h) (s .pre .0) (s .args .round) (s .args .at) (s .args .walk) (s .pre .1) _ (c .kind .ensures)
 
@@ -23,7 +22,7 @@ read-kind c =
 counted : (c : tie.Else1) → let a = c .before .before .before .args in isCounted (kind (now (a .board)) (headOf (now (a .board)) (a .h)) (a .walk .k)) ≡ true
 counted c =
     let a = c .before .before .before .args in
-    eq-eqb (kind (now (a .board)) (headOf (now (a .board)) (a .h)) (a .walk .k)) 0 (omega (arith, read-kind (c .before)))
+    eq-eqb (kind (now (a .board)) (headOf (now (a .board)) (a .h)) (a .walk .k)) 0 (omega (arith, kind-of (c .before)))
 
 round : (c : tie.Else1) → let m = c .before .before .before .args .round .m in m ≡ suc (m - 1)
 round c = omega (arith, c .before .before .before .pre .3 .further)
@@ -47,7 +46,7 @@ returns : tie.Need-returns
 returns c =
     let s = c .before .before .before in
     let k = kind (now (s .args .board)) (headOf (now (s .args .board)) (s .args .h)) (s .args .walk .k) in
-    later-none (now (s .args .board)) (s .args .h) _ _ _ _ (s .pre .3 .further) (ne-eqb k 0 (λ z. omega (arith, z, read-kind (c .before)))) (s .pre .1 .fits)
+    later-none (now (s .args .board)) (s .args .h) _ _ _ _ (s .pre .3 .further) (ne-eqb k 0 (λ z. omega (arith, z, kind-of (c .before)))) (s .pre .1 .fits)
 
 returns-2 : tie.Need-returns-2
 returns-2 c =

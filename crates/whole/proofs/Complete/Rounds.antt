@@ -29,7 +29,7 @@ use Rattle.whole.proofs.Complete.Written.{secret-at, secret}
 use Rattle.numbers.proofs.Tests.{by-cases}
 use Rattle.jobs.proofs.Lists.{strike}
 use Rattle.rules.proofs.Orders.{orders-of-test, bit-below}
-use Rattle.rules.proofs.Positions.{place-round}
+use Rattle.rules.proofs.Positions.{counted-has, place-round}
 use Rattle.rules.proofs.Leaving.{In}
 use Rattle.jobs.proofs.Matrices.{SameMatrix}
 use Rattle.whole.proofs.Complete.BallotRecord.{ballot-matrix, kind-read, ballot-kept}
@@ -218,7 +218,7 @@ module _ (hash : List ℕ → List ℕ) (job : Job) where
                 pairs = λ i j b c. rw (r .listed k) (
                   secret job m k i j,
                   record {
-                    x-below = secret-at hash job f m k in-round a is-counted i j b c .1;
+                    x-below = secret-at hash job f m k in-round a (counted-has (kindOf job k) m is-counted) i j b c .1;
                     v-below = bit-below (orders-of-test (job .n) (job .K) (job .p) (job .q) (f .ordered)) (eqb (getD (remaining (st .gone) (rankingOf job k)) i 0) (j + 1));
                     first = same .same-b i j b c;
                     second = same .same-y i j b c;

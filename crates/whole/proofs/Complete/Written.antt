@@ -3,17 +3,17 @@ use Prim.Native.Nat.{ℕ, zero, suc, _+_, _*_, _-_, _%_, _^_, _≤_, _<_}
 use native.Mathlib.Nat.{mod-mod, mul-le-mul-right, le-trans}
 use native.Mathlib.Omega.{arith}
 use mathlib.Core.Path.{_≡_, refl, _∙_}
-use mathlib.Core.Bool.{Bool, true}
+use mathlib.Core.Bool.{Bool}
 use mathlib.Core.List.{List, []}
 use lib.Dec.{eqb}
 use lib.ListN.{getD}
 use Rattle.numbers.specs.Below.{sumBelow}
 use Rattle.group.specs.Arithmetic.{powMod}
 use Rattle.rules.specs.Group.{paired}
-use Rattle.rules.specs.Records.{isCounted}
+use Rattle.rules.specs.Records.{recordsOf}
 use Rattle.rules.specs.Proofs.{Context}
 use Rattle.rules.specs.Claims.{lineClaim, entryClaim}
-use Rattle.jobs.specs.Job.{Job, groupOf, rankingOf, kindOf, remaining, recordDraws, needed, plainResult, draw, rowsOf}
+use Rattle.jobs.specs.Job.{Job, groupOf, rankingOf, kindOf, remaining, recordDraws, recordSecrets, needed, plainResult, draw, rowsOf}
 use Rattle.jobs.specs.Board.{jobDraws}
 use Rattle.rules.proofs.Elements.{Good, power-root, pair-root, paired-mod, root-mod, root-over, root-prod}
 use Rattle.whole.proofs.Complete.Honest.{Honest}
@@ -23,7 +23,8 @@ use Rattle.jobs.proofs.Rankings.{row-one, column-one}
 use Rattle.jobs.proofs.Lists.{standing-all}
 use Rattle.whole.proofs.Complete.Claims.{prod-powers, prod-pairs, pair-zero, pair-one}
 use Rattle.jobs.specs.Records.{secretAt, opened, matrixOf, lineProver, entryProver, rowProver, columnProver}
-use Rattle.jobs.proofs.Draws.{counted-within, draws-within, draws-mono}
+use Rattle.rules.proofs.Positions.{has-first}
+use Rattle.jobs.proofs.Draws.{secrets-within, secrets-are, draws-among}
 
 -- ballot k's secret in round m at row i, column j
 abbrev pub secret : Job → (m k i j : ℕ) → ℕ
@@ -37,13 +38,17 @@ module _ (hash : List ℕ → List ℕ) (job : Job) (f : Fine hash job) (m k : �
   pub draw-at : (e d : ℕ) → e < recordDraws (job .n) (kindOf job k) m → d ≡ jobDraws job m k + e → (1 ≤ draw job d) × (draw job d < job .q)
   unfolding needed
   draw-at e d l q =
-      f .drawn d (omega (arith, draws-within (job .n) (kindOf job) (job .K) m k in-ballots, draws-mono (job .n) (kindOf job) (job .K) (suc m) (plainResult job .rounds) in-round))
+      f .drawn d (omega (arith, draws-among (job .n) (kindOf job) (job .K) (plainResult job .rounds) m k in-round in-ballots))
 
   pub draw-below : (e d : ℕ) → e < recordDraws (job .n) (kindOf job k) m → d ≡ jobDraws job m k + e → draw job d < job .q
   draw-below e d l q = draw-at e d l q .1
 
-  pub secret-at : isCounted (kindOf job k) ≡ true → (i j : ℕ) → i < job .n - m → j < job .n → (1 ≤ secret job m k i j) × (secret job m k i j < job .q)
-  secret-at c i j a b = draw-at (i * job .n + j) _ (le-trans (cell (job .n) (job .n - m) i j a b) (counted-within (job .n) (kindOf job k) m c)) refl
+  -- of a ballot that has a record in round m
+  pub in-matrix : recordsOf (kindOf job k) m ≡ 1 → (i j : ℕ) → i < job .n - m → j < job .n → i * job .n + j < recordSecrets (job .n) (kindOf job k) m
+  in-matrix has i j a b = omega (arith, cell (job .n) (job .n - m) i j a b, secrets-are (job .n) (kindOf job k) m has)
+
+  pub secret-at : recordsOf (kindOf job k) m ≡ 1 → (i j : ℕ) → i < job .n - m → j < job .n → (1 ≤ secret job m k i j) × (secret job m k i j < job .q)
+  secret-at has i j a b = draw-at (i * job .n + j) _ (le-trans (in-matrix has i j a b) (secrets-within (job .n) (kindOf job k) m)) refl
 
 module _ (hash : List ℕ → List ℕ) (job : Job) (f : Fine hash job) (k : ℕ) (in-round : 0 < plainResult job .rounds) (in-ballots : k < job .K) where
   good : Good (groupOf hash job)
@@ -51,8 +56,7 @@ module _ (hash : List ℕ → List ℕ) (job : Job) (f : Fine hash job) (k : ℕ
 
   -- of a BA, audited ones too
   pub first-secret : (i j : ℕ) → i < job .n → j < job .n → secret job 0 k i j < job .q
-  unfolding recordDraws
-  first-secret i j a b = draw-below hash job f 0 k in-round in-ballots (i * job .n + j) _ (omega (arith, cell (job .n) (job .n) i j a b)) refl
+  first-secret i j a b = secret-at hash job f 0 k in-round in-ballots (has-first (kindOf job k)) i j (omega arith) b .1
 
   -- both sides of an entry's claim
   entry-roots : (x v l : ℕ) →

@@ -25,6 +25,7 @@ use Rattle.jobs.proofs.FineJob.{Fine, good-group}
 use Rattle.jobs.proofs.Rankings.{place-at, place-below, struck-at, times, times-member}
 use Rattle.jobs.proofs.Lists.{strike}
 use Rattle.whole.proofs.Complete.Claims.{pair-none, prod-powers, prod-pairs, pair-one, pair-over, power-over}
+use Rattle.rules.proofs.Positions.{counted-has}
 use Rattle.whole.proofs.Complete.Written.{draw-below, secret-at, secret}
 use Rattle.jobs.specs.Records.{matrixOf, shiftProver, shiftWitness}
 use Rattle.jobs.proofs.Matrices.{source-below}
@@ -78,7 +79,7 @@ module _ (hash : List ℕ → List ℕ) (job : Job) (f : Fine hash job) (before 
       let some : 0 < job .n = omega (arith, f .n-low) in
       let b : i / job .n < job .n - suc m = div-lt-iff-lt-mul some .1 l in
       let c : source row (i / job .n) < job .n - suc m + 1 = source-below row (i / job .n) (job .n - suc m) b in
-      omega (arith, secret-at hash job f m k (omega arith) in-ballots is-counted (source row (i / job .n)) (i % job .n) (omega arith) (mod-lt i some) .1)
+      omega (arith, secret-at hash job f m k (omega arith) in-ballots (counted-has (kindOf job k) m is-counted) (source row (i / job .n)) (i % job .n) (omega arith) (mod-lt i some) .1)
 
   -- the new row i is the row that it comes from
   moved : (i : ℕ) → getD (remaining (before ++ (a ∷ [])) (rankingOf job k)) i 0 ≡ getD (remaining before (rankingOf job k)) (source row i) 0

@@ -8,7 +8,6 @@ use native.Mathlib.Omega.{arith}
 use lib.ListN.{length, length-take, length-drop, length-append}
 use borrow.Author.Tests.{ltb-true}
 use Rattle.numbers.specs.Below.{sumBelow}
-use Rattle.numbers.proofs.Tests.{by-cases}
 use Rattle.group.specs.Arithmetic.{over}
 use Rattle.group.specs.Elements.{isElement}
 use Rattle.rules.specs.Bytes.{number2}
@@ -16,7 +15,8 @@ use Rattle.rules.specs.Group.{orders}
 use Rattle.rules.specs.Proofs.{commitmentsAt, challenge}
 use Rattle.rules.specs.Claims.{Matrix, entryClaim, lineClaim, shiftClaim}
 use Rattle.rules.specs.Count.{leaves}
-use Rattle.rules.specs.Records.{headerLength, isCounted, recordsOf}
+use Rattle.rules.specs.Records.{headerLength, isCounted}
+use Rattle.rules.proofs.Positions.{has-first, counted-has, has-counted}
 use Rattle.rules.specs.Header.{Header, header}
 use Rattle.rules.specs.Check.{place, kind, matrix, counts}
 use Rattle.rules.proofs.Sizes.{cells}
@@ -105,18 +105,8 @@ module _ (hash : List ℕ → List ℕ) (s : List ℕ) (rounds : ℕ) (order : L
     first = omega (arith, w .rounds-are)
 
     numbered : (m : ℕ) → m < rounds → HasRecord s h m k → number2 s (place s h m k + 2) ≡ k + 1
-    unfolding recordsOf
     numbered zero l has = w .records 0 k l in-ballots .ballot .numbered
-    numbered (suc m) l has = by-cases (isCounted (kind s h k)) (λ c. w .records (suc m) k l in-ballots c .numbered) (λ c. absurd (omega (arith, rw c at has)))
-
-    -- BA, and SH of a counted ballot
-    has-ballot : HasRecord s h 0 k
-    unfolding recordsOf
-    has-ballot = refl
-
-    has-shift : (m : ℕ) → IsCounted → HasRecord s h (suc m) k
-    unfolding recordsOf
-    has-shift m c = rw c
+    numbered (suc m) l has = w .records (suc m) k l in-ballots (has-counted (kind s h k) m has) .numbered
 
     shown-below : (at b S : ℕ) → ProofFields s (h .group) at b S → (l i : ℕ) → l < b → i < S → Small (commitmentsAt s at S l i .t1) × Small (commitmentsAt s at S l i .t2)
     shown-below at b S f l i c d = (element-below _ (f .t1-element l i c d), element-below _ (f .t2-element l i c d))
@@ -130,7 +120,7 @@ module _ (hash : List ℕ → List ℕ) (s : List ℕ) (rounds : ℕ) (order : L
         let r = w .records 0 k first in-ballots .ballot in
         record {
           label-long = label-long s (w .head .fits);
-          number-below = number-below 0 first has-ballot;
+          number-below = number-below 0 first (has-first (kind s h k));
           place-below = omega (arith, cell (h .n) (h .n) i j (o .0) (o .1), cells (h .n) (few .1));
           claims-below = λ l _ _ _. entry-below _ _ l (element-below _ (r .pairs .b-element i j (o .0) (o .1))) (element-below _ (r .pairs .y-element i j (o .0) (o .1)));
           commitments-below = shown-below _ 2 1 (r .entry-fields i j (o .0) (o .1));
@@ -138,7 +128,7 @@ module _ (hash : List ℕ → List ℕ) (s : List ℕ) (rounds : ℕ) (order : L
     fits (row i) o =
         record {
           label-long = label-long s (w .head .fits);
-          number-below = number-below 0 first has-ballot;
+          number-below = number-below 0 first (has-first (kind s h k));
           place-below = omega (arith, cells (h .n) (few .1), few .1);
           claims-below = λ _ _ _ _. line-below _ _ _;
           commitments-below = shown-below _ 1 1 (w .records 0 k first in-ballots .ballot .row-fields i o);
@@ -146,7 +136,7 @@ module _ (hash : List ℕ → List ℕ) (s : List ℕ) (rounds : ℕ) (order : L
     fits (column j) o =
         record {
           label-long = label-long s (w .head .fits);
-          number-below = number-below 0 first has-ballot;
+          number-below = number-below 0 first (has-first (kind s h k));
           place-below = omega (arith, cells (h .n) (few .1), few .1);
           claims-below = λ _ _ _ _. line-below _ _ _;
           commitments-below = shown-below _ 1 1 (w .records 0 k first in-ballots .ballot .column-fields j o);
@@ -156,7 +146,7 @@ module _ (hash : List ℕ → List ℕ) (s : List ℕ) (rounds : ℕ) (order : L
         let out = out-in m (o .0) in
         record {
           label-long = label-long s (w .head .fits);
-          number-below = number-below (suc m) (o .0) (has-shift m (o .1));
+          number-below = number-below (suc m) (o .0) (counted-has (kind s h k) (suc m) (o .1));
           place-below = omega arith;
           claims-below = λ l i a b. shift-below _ _ _ l i (element-below _ (pairs-in m (omega (arith, o .0)) (o .1) .y-element l _ (omega (arith, out .0)) (out .1)));
           commitments-below = shown-below _ _ _ (r .proof-fields);
@@ -174,7 +164,7 @@ module _ (hash : List ℕ → List ℕ) (s : List ℕ) (rounds : ℕ) (order : L
     -- the number that its message names
     pub number-is : (f : Form) → OnBoard (h .n) rounds (kind s h k) f → onBoard s k f .number ≡ k + 1
     unfolding OnBoard recordOf
-    number-is (entry i j) o = numbered 0 first has-ballot
-    number-is (row i) o = numbered 0 first has-ballot
-    number-is (column j) o = numbered 0 first has-ballot
-    number-is (shift m) o = numbered (suc m) (o .0) (has-shift m (o .1))
+    number-is (entry i j) o = numbered 0 first (has-first (kind s h k))
+    number-is (row i) o = numbered 0 first (has-first (kind s h k))
+    number-is (column j) o = numbered 0 first (has-first (kind s h k))
+    number-is (shift m) o = numbered (suc m) (o .0) (counted-has (kind s h k) (suc m) (o .1))

@@ -3,14 +3,15 @@ use mathlib.Core.Path.{_≡_, refl, sym, _∙_}
 use mathlib.Core.Bool.{true}
 use mathlib.Core.List.{List}
 use native.Mathlib.Omega.{arith}
-use lib.ListN.{length, getD}
+use lib.ListN.{getD}
 use denote.Ref.{now}
 use borrow.Author.Tests.{not-true, not-false}
 use Rattle.numbers.specs.Below.{allBelow}
 use Rattle.numbers.proofs.Tests.{all-none, all-more, all-end}
 use Rattle.jobs.specs.Job.{recordDraws, recordSecrets, roundDraws, drawsAt}
 use Rattle.jobs.specs.Write.{different}
-use Rattle.validity.proofs.Walk.{recordGood, roundGood, draws-first, draws-next, draws-round, draws-there, secrets-there, repeats}
+use Rattle.jobs.proofs.Draws.{secrets-within, draws-start, draws-step, draws-end, draws-among}
+use Rattle.validity.proofs.Walk.{recordGood, roundGood, repeats}
 use borrow.Author.Needs.{needs}
 use Rattle.validity.proofs.repeats.none_repeats.Statement.{statement}
 use Rattle.validity.proofs.repeats.none_repeats.Tie as tie
@@ -38,7 +39,7 @@ loop2-holds : tie.Need-loop2-holds Inv-loop2 μ-loop2 Inv-loop μ-loop
 loop2-holds c =
     let f = c .before .before .before .before .args in
     let l = c .before .loop in
-    (omega arith, l .inv .1 ∙ sym (draws-first (now (f .draws)) (f .n) (kindAt (now (f .kinds))) (f .k) (l .m)), all-none _)
+    (omega arith, l .inv .1 ∙ sym (draws-start (f .n) (kindAt (now (f .kinds))) (f .k) (l .m)), all-none _)
 
 -- how many x the record has
 secrets-told : (c : tie.After-record-secrets Inv-loop2 μ-loop2 Inv-loop μ-loop) →
@@ -59,7 +60,9 @@ all-different-requires c κs =
         arith,
         secrets-told c,
         i .inv .1,
-        secrets-there (now (f .draws)) (f .n) (kindAt (now (f .kinds))) (f .k) (f .rounds) (l .m) (i .b) (length (now (f .draws))) (omega arith) (omega arith) (s .pre .3),
+        draws-among (f .n) (kindAt (now (f .kinds))) (f .k) (f .rounds) (l .m) (i .b) (omega arith) (omega arith),
+        secrets-within (f .n) (kindAt (now (f .kinds)) (i .b)) (l .m),
+        s .pre .3,
       ),
     )
 
@@ -92,7 +95,7 @@ add-at c =
     let f = s .args in
     let l = c .before .before .before .before .before .before .before .before .before .loop in
     let i = c .before .before .before .before .before .before .before .loop2 in
-    omega (arith, drawn c, i .inv .1, draws-there (now (f .draws)) (f .n) (kindAt (now (f .kinds))) (f .k) (f .rounds) (l .m) (i .b) (length (now (f .draws))) (omega arith) (omega arith) (s .pre .3))
+    omega (arith, drawn c, i .inv .1, draws-among (f .n) (kindAt (now (f .kinds))) (f .k) (f .rounds) (l .m) (i .b) (omega arith) (omega arith), s .pre .3)
 
 loop2-again : tie.Need-loop2-again Inv-loop2 μ-loop2 Inv-loop μ-loop
 loop2-again c =
@@ -100,7 +103,7 @@ loop2-again c =
     let l = c .before .before .before .before .before .before .before .before .before .loop in
     let i = c .before .before .before .before .before .before .before .loop2 in (
       omega arith,
-      omega (arith, drawn c, i .inv .1, draws-next (now (f .draws)) (f .n) (kindAt (now (f .kinds))) (f .k) (l .m) (i .b)),
+      omega (arith, drawn c, i .inv .1, draws-step (f .n) (kindAt (now (f .kinds))) (f .k) (l .m) (i .b)),
       all-more (i .b) _ (i .inv .2) (sym (told (c .before .before)) ∙ not-false _ (c .before .if1 .left)),
     )
 
@@ -110,7 +113,7 @@ loop-again c =
     let l = c .before .before .before .loop in
     let i = c .before .loop2 in (
       omega arith,
-      i .inv .1 ∙ draws-round (now (f .draws)) (f .n) (kindAt (now (f .kinds))) (f .k) (l .m) (i .b) (omega arith),
+      i .inv .1 ∙ draws-end (f .n) (kindAt (now (f .kinds))) (f .k) (l .m) (i .b) (omega arith),
       all-more (l .m) _ (l .inv .2) (all-end (f .k) (i .b) (recordGood (now (f .draws)) (f .n) (kindAt (now (f .kinds))) (f .k) (l .m)) (i .inv .0) (omega arith) (i .inv .2)),
     )
 
