@@ -1,15 +1,17 @@
-//! An example host in Rust: lends boards of any size to the library, and prints boardcheck's verdicts
-//! or the ballots of receipts.
+//! An example host in Rust: lends boards of any size to the library, and prints boardcheck's verdicts,
+//! the ballots of receipts or the counts in sentences.
 //!
 //!     boardhost FILE...                  a verdict for each file
 //!     boardhost --digests FILE BOARD...  for each board a line: found, and for each digest of FILE
 //!                                        (of 32 bytes, one after another) the ballot's number or 0;
 //!                                        or the refusal
+//!     boardhost --names FILE BOARD...    for each board its text, the processes named by FILE (a line
+//!                                        each); or the refusal
 //!
 //! With no board it takes the one on standard input. A board that cannot be read gets a line on
-//! standard error and no answer, and the next one follows; if the digests cannot be read, none gets an
-//! answer. Ends with 0 if all boards are accepted or walked, 1 if one is refused, 2 if a file cannot be
-//! read.
+//! standard error and no answer, and the next one follows; if the digests or names cannot be read, none
+//! gets an answer. Ends with 0 if all boards are accepted, walked or told, 1 if one is refused, 2 if a
+//! file cannot be read.
 use std::io::{self, Read, Write};
 use std::process::ExitCode;
 
@@ -18,6 +20,9 @@ const ANSWER: usize = 10;
 
 /// The bytes of a digest.
 const DIGEST: usize = 32;
+
+/// Enough for every text: see the header.
+const TEXT_MOST: usize = 1454;
 
 const ANSWERED: u8 = 0;
 const REFUSED: u8 = 1;
@@ -34,6 +39,24 @@ extern "C" {
         found: *mut u16,
         found_length: usize,
     ) -> usize;
+    fn gooseoften_text(
+        board: *const u8,
+        board_length: usize,
+        names: *const u8,
+        names_length: usize,
+        out: *mut u8,
+        out_length: usize,
+        answer: *mut [usize; 1],
+    ) -> usize;
+}
+
+/// What is asked of every board, with what is lent for it: the verdict, the ballots of digests, the
+/// text with names.
+#[derive(Clone, Copy)]
+enum Question<'a> {
+    Verdict,
+    Receipts(&'a [u8]),
+    Text(&'a [u8]),
 }
 
 /// The number of the first rule that is broken, and the record that goes with it.
@@ -84,6 +107,26 @@ fn find(board: &[u8], digests: &[u8]) -> Result<Vec<u16>, Refusal> {
     answered(code, found)
 }
 
+/// The count in sentences. Every slice is allowed here too.
+fn text(board: &[u8], names: &[u8]) -> Result<Vec<u8>, Refusal> {
+    let mut out = vec![0u8; TEXT_MOST];
+    let mut length = [0usize; 1];
+    // SAFETY: board and names are valid for the call, and out and length overlap nothing else.
+    let code = unsafe {
+        gooseoften_text(
+            board.as_ptr(),
+            board.len(),
+            names.as_ptr(),
+            names.len(),
+            out.as_mut_ptr(),
+            out.len(),
+            &mut length,
+        )
+    };
+    out.truncate(length[0]);
+    answered(code, out)
+}
+
 fn print_accepted(accepted: &Accepted, out: &mut impl Write) -> io::Result<()> {
     writeln!(out, "accepted\nrounds {}", accepted.order.len() + 1)?;
     for process in &accepted.order {
@@ -116,15 +159,16 @@ fn read(name: Option<&str>) -> Option<Vec<u8>> {
     bytes.ok()
 }
 
-/// Prints the answer to one board: where digests are given, their ballots, else the verdict.
-fn answer(name: Option<&str>, digests: Option<&[u8]>) -> io::Result<u8> {
+/// Prints the answer to one board.
+fn answer(name: Option<&str>, question: Question) -> io::Result<u8> {
     let Some(board) = read(name) else {
         return Ok(UNREAD);
     };
     let out = &mut io::stdout().lock();
-    let result = match digests {
-        Some(digests) => find(&board, digests).map(|found| print_found(&found, out)),
-        None => check(&board).map(|accepted| print_accepted(&accepted, out)),
+    let result = match question {
+        Question::Verdict => check(&board).map(|accepted| print_accepted(&accepted, out)),
+        Question::Receipts(digests) => find(&board, digests).map(|found| print_found(&found, out)),
+        Question::Text(names) => text(&board, names).map(|text| out.write_all(&text)),
     };
     match result {
         Ok(printed) => printed.map(|()| ANSWERED),
@@ -135,28 +179,31 @@ fn answer(name: Option<&str>, digests: Option<&[u8]>) -> io::Result<u8> {
 }
 
 /// The worst of the answers to the boards of these names.
-fn answer_all(names: &[String], digests: Option<&[u8]>) -> io::Result<u8> {
+fn answer_all(names: &[String], question: Question) -> io::Result<u8> {
     if names.is_empty() {
-        return answer(None, digests);
+        return answer(None, question);
     }
     let mut worst = ANSWERED;
     for name in names {
-        worst = worst.max(answer(Some(name), digests)?);
+        worst = worst.max(answer(Some(name), question)?);
     }
     Ok(worst)
 }
 
 fn run(arguments: &[String]) -> io::Result<u8> {
-    match arguments {
-        [option] if option == "--digests" => {
-            eprintln!("usage: boardhost [--digests FILE] [BOARD...]");
-            Ok(UNREAD)
-        }
-        [option, file, boards @ ..] if option == "--digests" => match read(Some(file)) {
-            Some(digests) => answer_all(boards, Some(&digests)),
-            None => Ok(UNREAD),
-        },
-        boards => answer_all(boards, None),
+    let receipts = match arguments.first().map(String::as_str) {
+        Some("--digests") => true,
+        Some("--names") => false,
+        _ => return answer_all(arguments, Question::Verdict),
+    };
+    let [_, file, boards @ ..] = arguments else {
+        eprintln!("usage: boardhost [--digests FILE | --names FILE] [BOARD...]");
+        return Ok(UNREAD);
+    };
+    match read(Some(file)) {
+        Some(digests) if receipts => answer_all(boards, Question::Receipts(&digests)),
+        Some(names) => answer_all(boards, Question::Text(&names)),
+        None => Ok(UNREAD),
     }
 }
 

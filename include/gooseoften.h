@@ -1,7 +1,7 @@
-/* Gooseoften: checks and writes ranked-ballot boards, and finds receipts on them. Link with
- * libgooseoften.a.
+/* Gooseoften: checks and writes ranked-ballot boards, finds receipts on them, and tells their counts in
+ * sentences. Link with libgooseoften.a.
  *
- * The three functions take any bytes and any numbers, keep nothing between calls, allocate nothing,
+ * The four functions take any bytes and any numbers, keep nothing between calls, allocate nothing,
  * and read and write only what is lent. What they return and write is proved.
  *
  * The caller sees to it that each pointer has as many elements behind it as the length after it
@@ -42,7 +42,9 @@ enum gooseoften_refusal {
                                      kinds are not one a ballot */
     GOOSEOFTEN_OPENING = 18,      /* an audited ballot does not open to what it shows */
     GOOSEOFTEN_NONE_COUNTED = 19, /* no ballot is counted */
-    GOOSEOFTEN_REPEAT = 20        /* of a job: two x of a matrix are equal */
+    GOOSEOFTEN_REPEAT = 20,       /* of a job: two x of a matrix are equal */
+    GOOSEOFTEN_NAMES = 21         /* the names are not one of 1 to 20 letters a process, each with a
+                                     line feed after it, all different */
 };
 
 static inline size_t gooseoften_refusal_number(size_t code)
@@ -97,6 +99,22 @@ size_t gooseoften_write(size_t n, size_t k, uint32_t p, uint32_t q, uint32_t g0,
 size_t gooseoften_find(const uint8_t *board, size_t board_length,
                        const uint8_t *digests, size_t digests_length,
                        uint16_t *found, size_t found_length);
+
+/* An output of so many bytes is long enough for the text of every board: 8 names of 20 letters, and
+ * counts of 4 digits, in 7 lines. */
+enum { GOOSEOFTEN_TEXT_MOST = 1454 };
+
+/* Tells the count of a board: writes a line for each round to the front of out, and the length of all
+ * lines to answer[0], or refuses and leaves out and answer as they were. A line is
+ *   Round 2: Skyr counts 5, Quark counts 4; Skyr wins.
+ * and a line feed: each process still in with its count, in the order of their numbers, then the one
+ * that leaves ("; Quark leaves."), in the last round the one that wins. No zero ends the text. Names:
+ * one a process, of 1 to 20 letters A to Z and a to z, each with a line feed (byte 10) after it, none
+ * equal to another; large and small letters differ. The board is checked first, and refused as
+ * gooseoften_check refuses it; then the names (21), then out's length (15). */
+size_t gooseoften_text(const uint8_t *board, size_t board_length,
+                       const uint8_t *names, size_t names_length,
+                       uint8_t *out, size_t out_length, size_t answer[1]);
 
 #ifdef __cplusplus
 }

@@ -170,6 +170,61 @@ FINDS = {
     'K1000': 'found: K = 1,000 with n = 2',
 }
 
+TEXTS = {
+    'hand': "01's board of three rankings; 02's own sentence",
+    '1': 'refusal 1: header, first and last sheet cut',
+    '2': 'refusal 2: mark of the header, of the first and the last sheet',
+    '3': 'refusal 3: n, K',
+    '4': 'refusal 4: p, q',
+    '5': 'refusal 5: g0, g1, label',
+    '6': 'refusal 6: number of a ballot, of a shift, round of a sheet',
+    '7': 'refusal 7: field of a ballot, of a shift, of a sheet',
+    '8': 'refusal 8: proof of the first ballot, of the last, of the last shift',
+    '9': 'refusal 9: count of a process',
+    '10': 'refusal 10: tally of a process',
+    '11': 'refusal 11: out of a sheet',
+    '12': 'refusal 12: one byte, a record, a board more',
+    '17': 'refusal 17: kind of a ballot',
+    '18': 'refusal 18: what an audited ballot shows',
+    '19': 'refusal 19: nothing counted, of one, two and three ballots',
+    'board.names': 'a refused board with bad names: the board is named',
+    'board.room': 'a refused board and no room: the board is named',
+    '21.none': 'refusal 21: no names at all',
+    '21.empty': 'refusal 21: an empty name',
+    '21.long': 'refusal 21: a name of 21 letters and more',
+    '21.few': 'refusal 21: n - 1 names and fewer',
+    '21.many': 'refusal 21: n + 1 names and more',
+    '21.feed': 'refusal 21: a line feed missing',
+    '21.beyond': 'refusal 21: bytes behind the last line feed',
+    '21.byte': 'refusal 21: a byte that is no letter, by its name',
+    '21.letter': 'refusal 21: a byte that is no letter, by its place in the name',
+    '21.every': 'refusal 21: each byte that is no letter, alone or behind 19 letters',
+    '21.otherwise': 'refusal 21: names ended or parted by something else',
+    '21.equal': 'refusal 21: equal names, the first two, others, the last two',
+    '21.ends': 'refusal 21: the first name and the last',
+    '21.15': 'bad names and no room: 21',
+    '15': 'refusal 15: next to no room, some, all but one or two bytes',
+    'exact': 'text: a room that just fits',
+    'room': 'text: room to spare, kept as it was',
+    'length': 'text: a name of 1, 2, 19 and 20 letters',
+    'letters': 'text: each letter, alone or behind 19 others',
+    'case': 'text: names equal but for large and small letters',
+    'start': 'text: a name that is the beginning or the end of another',
+    'near': 'text: names that differ in one letter or in their order',
+    'words': 'text: words of the sentence as names',
+    'leaves': 'text: who leaves first, by its number',
+    'wins': 'text: who wins after that, by its number',
+    'gone': 'text: counts of those gone out on the sheets, which are not told',
+    'ties': 'text: ties',
+    'counts': 'text: counts of 0, 9, 10, 99, 100, 101, 110, 1,000 and others',
+    'audited': 'text: some ballots audited, by the last of them',
+    'n': 'text: 2 to 8 processes',
+    'rounds': 'text: 1 to 7 rounds',
+    'groups': 'text: the least group, tiny ones, q of 11 and 331',
+    'longest': 'text: 8 names of 20 letters in 7 rounds',
+    'K1000': 'text: K = 1,000 with n = 2',
+}
+
 # rows that are counted by place, with the places that they have
 PLACED = {key: PLACES for key in BOARDS if key[0].isdigit() or key.startswith('message.')}
 PLACED['3'] = PLACED['4'] = ('first', 'last')
@@ -181,6 +236,10 @@ JOB_PLACED['3'] = JOB_PLACED['4'] = ('first', 'last')
 FIND_PLACED = {key: PLACES for key in ('1', '2', '5', '6', '15', '16.byte', '16.pair', '17', 'found',
                                        'place', 'audited')}
 FIND_PLACED['3'] = FIND_PLACED['4'] = ('first', 'last')
+TEXT_PLACED = {key: PLACES for key in TEXTS if key.isdigit()}
+TEXT_PLACED.update({key: PLACES for key in ('21.empty', '21.long', '21.feed', '21.byte', '21.letter',
+                                            '21.equal', 'length', 'leaves', 'wins', 'audited')})
+TEXT_PLACED['3'] = TEXT_PLACED['4'] = TEXT_PLACED['11'] = ('first', 'last')
 
 
 class Cases:

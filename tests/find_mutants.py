@@ -57,7 +57,7 @@ FINDERS = [
      "    if reading.left() < 4 + 6 * n:\n        reading.refuse(1)\n    return held\n"),
     ('nothing may remain', "    return held\n", "    if reading.left() > 0:\n        reading.refuse(12)\n    return held\n"),
     ('the whole board checked', "        held = receipts(board)\n",
-     "        from .check import check_or_raise\n        check_or_raise(board)\n        held = receipts(board)\n"),
+     "        from .check import read_board\n        read_board(board)\n        held = receipts(board)\n"),
     ('fields tested', "        reading.next = start + ba_length(n, kind)\n",
      "        from .check import read_matrix\n        read_matrix(reading, _, n, n)\n        reading.next = start + ba_length(n, kind)\n"),
     ('proofs tested', "        kind = open_ballot(reading, n, k)\n        reading.next",

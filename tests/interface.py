@@ -9,9 +9,11 @@ number, order and type with
   - include/gooseoften.h,
   - the extern block of hosts/boardhost.rs, for the functions that it declares,
 
-the symbols with those that libgooseoften.a defines, and the refusals' names and numbers in
-crates/rules/src/lib.rt with those of the header and of bench/plain/plain.h.  Ends with 1 where
-anything differs.  `signatures` gives the same types to the scripts that call the library.
+the symbols with those that libgooseoften.a defines, the refusals' names and numbers in
+crates/rules/src/lib.rt with those of the header and of bench/plain/plain.h, and the length that is
+enough for every text in the header and in the Rust host with the one that is proved.  Ends with 1
+where anything differs.
+`signatures` gives the same types to the scripts that call the library.
 """
 import ctypes
 import re
@@ -21,7 +23,7 @@ import sys
 from stored import Comparison, content, path
 
 ARCHIVE = path('target', 'staticlib', 'libgooseoften.a')
-OTHERS = (13, 14, 15, 16, 20)                                # refusals of no check
+OTHERS = (13, 14, 15, 16, 20, 21)                            # refusals of no check
 NUMBERS = {'u8': ('uint8_t', ctypes.c_uint8), 'u16': ('uint16_t', ctypes.c_uint16),
            'u32': ('uint32_t', ctypes.c_uint32), 'usize': ('size_t', ctypes.c_size_t)}
 
@@ -141,6 +143,11 @@ def refusals():
             [r for r in in_order(plain.group(1), 'PLAIN') if r[1]])
 
 
+def enough(name, words):
+    """The length that a source says is enough for every text."""
+    return [int(number) for number in re.findall(words + r' (\d+)', source(name), re.S)]
+
+
 def main():
     comparison = Comparison()
     rust, declared = in_rust(), due(1)
@@ -153,6 +160,11 @@ def main():
     comparison.compare('refusals in the header', header, numbers)
     comparison.compare('refusals in bench/plain', plain,
                        [(name, number) for name, number in numbers if number not in OTHERS])
+    proved = enough('crates/whole/specs/Sentences.antt', r'pub enough : .*?\) ≤')
+    comparison.compare('length of a text in the header',
+                       enough('include/gooseoften.h', 'TEXT_MOST ='), proved)
+    comparison.compare('length of a text in the Rust host',
+                       enough('hosts/boardhost.rs', 'TEXT_MOST: usize ='), proved)
     return comparison.status()
 
 

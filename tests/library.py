@@ -9,9 +9,12 @@ It builds libgooseoften.a (`rt staticlib gooseoften`) and the hosts in C and in 
     reference made;
   - their verdicts on boards beyond 65,536 bytes, sound and damaged, with the reference's;
   - what both do with files that cannot be read, and with which status they end;
-  - what both print of the digests of a file, for the stored finds of crates/find_cases;
+  - what both print of the digests of a file, for the stored finds of crates/find_cases, and with the
+    names of a file, for the stored texts of crates/text_cases;
+  - the text that both print for README's example with the one that README shows;
   - gooseoften_write on the stored jobs of crates/job_cases with the stored replies;
   - gooseoften_find on the stored finds of crates/find_cases with the stored replies;
+  - gooseoften_text on the stored texts of crates/text_cases with the stored replies;
   - the functions with a null pointer wherever a length is 0;
   - the stack that a call takes with the most that README names.
 
@@ -21,7 +24,6 @@ it to be left out.  Prints a line for each comparison and ends with 1 where anyt
 import ctypes
 import hashlib
 import os
-import random
 import re
 import shutil
 import subprocess
@@ -29,11 +31,11 @@ import sys
 import tempfile
 
 import stored
-from stored import LIMIT, ROOT, Comparison, path
+from stored import ROOT, Comparison, path
 
-import boardref as ref
-import gen
 import interface
+import text_boards
+from host_tests import compare_hosts, put
 
 NAMES = ('gcc', 'clang', 'cc')
 
@@ -75,105 +77,6 @@ def load_library(folder):
     subprocess.run([c_compiler(), '-shared', '-Wl,--whole-archive', interface.ARCHIVE,
                     '-Wl,--no-whole-archive', '-o', shared], check=True)
     return interface.signatures(ctypes.CDLL(shared))
-
-
-# ------------------------------------------------------------------ hosts
-
-def large_boards():
-    """(board, the reference's verdict): sound boards beyond boardcheck's limit, and damaged ones."""
-    rng = random.Random(65537)
-    boards = []
-    p, q, g0 = gen.HOUSE
-    for n, K, audited in ((8, 12, ()), (3, 200, ()), (2, 500, ()), (4, 60, range(1, 61, 3))):
-        label, counter = gen.label_counter(rng, p, q, g0)
-        rankings = [c for ranking in gen.rankings_of(rng, n, K, 'cycle') for c in ranking]
-        kinds = gen.audited_at(K, *audited)
-        draws = gen.job_draws(rng, q, n, kinds, n - 1)
-        board = ref.write(n, K, p, q, g0, counter, label, rankings, kinds, draws, 1 << 25)[1]
-        assert len(board) > LIMIT, len(board)
-        boards += [board, board[:-1], board + b'\0', board[:LIMIT + 1]]
-        for _ in range(12):
-            at = rng.randrange(54, len(board))
-            boards.append(board[:at] + bytes([board[at] ^ 1 << rng.randrange(8)]) + board[at + 1:])
-    return [(board, ref.answer_text(ref.check(board))) for board in boards]
-
-
-def run_host(program, *names, **more):
-    done = subprocess.run([program, *names], capture_output=True, **more)
-    return done.stdout.decode(), done.stderr.decode(), done.returncode
-
-
-def due_of(verdict):
-    return verdict, '', 0 if verdict.startswith('accepted') else 1
-
-
-def put(folder, name, data):
-    """The path of a file with these bytes."""
-    name = os.path.join(folder, name)
-    with open(name, 'wb') as f:
-        f.write(data)
-    return name
-
-
-def verdicts(program, boards, folder):
-    """What a host does with each board, lent from a file of its own."""
-    return [run_host(program, put(folder, 'board', board)) for board in boards]
-
-
-def unreadable(program):
-    """What a host does with files of which some cannot be read, and with no file at all."""
-    sound = path('crates', 'boardcheck', 'stdin')
-    folder, missing = path('tests'), path('tests', 'no_such_board')
-    with open(sound, 'rb') as board, open('/dev/null') as nothing:
-        return [run_host(program, missing), run_host(program, missing, sound, folder, sound),
-                run_host(program, sound, '/dev/null'), run_host(program, stdin=board),
-                run_host(program, stdin=nothing)]
-
-
-def unreadable_due():
-    sound = stored.content('crates', 'boardcheck', 'stdout').decode()
-    folder, missing = path('tests'), path('tests', 'no_such_board')
-    line = 'boardhost: cannot read %s\n'
-    return [('', line % missing, 2), (2 * sound, line % missing + line % folder, 2),
-            (sound + 'refused 1 0\n', '', 1), (sound, '', 0), ('refused 1 0\n', '', 1)]
-
-
-def hosts_finds():
-    """(find, what is due of a host): without those that 15 refuses, since a host lends a list that
-    fits."""
-    finds = []
-    for find in stored.finds():
-        answer = re.fullmatch(r'\S+ (.*), (rest|list) unchanged', find.line).group(1)
-        if not answer.startswith('refused 15'):
-            finds.append((find, (answer + '\n', '', 1 if answer.startswith('refused') else 0)))
-    return finds
-
-
-def asked(program, finds, folder):
-    """What a host does with the digests and the board of each find."""
-    return [run_host(program, '--digests', put(folder, 'digests', find.digests),
-                     put(folder, 'board', find.board)) for find in finds]
-
-
-def unasked(program, folder):
-    """What a host does with digests and boards of which some cannot be read, with a board on
-    standard input, with no digest, and with no file of digests."""
-    sound, tests = path('crates', 'boardcheck', 'stdin'), path('tests')
-    missing = path('tests', 'no_such_file')
-    first = hashlib.sha256(stored.content('crates', 'boardcheck', 'stdin')[54:515]).digest()
-    digests = put(folder, 'digests', bytes(32) + first)
-    with open(sound, 'rb') as board:
-        return [run_host(program, '--digests', *names, stdin=board) for names in (
-            (missing, sound), (tests, sound), (digests, missing, sound, tests, sound),
-            (digests, '/dev/null', sound), (digests,), ('/dev/null', sound), ())]
-
-
-def unasked_due():
-    line = 'boardhost: cannot read %s\n'
-    missing, tests = line % path('tests', 'no_such_file'), line % path('tests')
-    return [('', missing, 2), ('', tests, 2), (2 * 'found 0 1\n', missing + tests, 2),
-            ('refused 1 0\nfound 0 1\n', '', 1), ('found 0 1\n', '', 0), ('found\n', '', 0),
-            ('', 'usage: boardhost [--digests FILE] [BOARD...]\n', 2)]
 
 
 # ------------------------------------------------------------------ the functions
@@ -239,6 +142,37 @@ def null_finds(library, board):
     return seen
 
 
+def text(library, board, names, out, room, answer):
+    return library.gooseoften_text(*lent(ctypes.c_uint8, list(board)),
+                                   *lent(ctypes.c_uint8, list(names)), out, room, answer)
+
+
+def told_by(library, case):
+    """What crates/text_cases/stdout has for a text."""
+    before = bytes(i % 251 for i in range(text_boards.ROOM))
+    out = (ctypes.c_uint8 * len(before))(*before)
+    answer = (ctypes.c_size_t * 1)(9999)
+    code = text(library, case.board, case.names, out, case.room, answer)
+    after, length = bytes(out), 0 if code else answer[0]
+    same = after[length:] == before[length:] and (answer[0] == 9999 or not code)
+    rest = 'unchanged' if same else 'changed'
+    if code:
+        return '%s refused %d %d, output %s\n' % (case.name, code % 256, code // 256, rest)
+    return '%s text %d, rest %s\n%s' % (case.name, length, rest, after[:length].decode('latin-1'))
+
+
+def null_texts(library, board):
+    """(code, output and answer unchanged) where board, names and output are null and empty, by turns
+    and all."""
+    seen = []
+    for lent_board, names, room in ((b'', b'A\nB\n', 99), (board, b'', 99), (board, b'A\nB\n', 0),
+                                    (board, b'', 0), (b'', b'', 0)):
+        out, answer = (ctypes.c_uint8 * 99)(*[7] * 99), (ctypes.c_size_t * 1)(7)
+        code = text(library, lent_board, names, out if room else None, room, answer)
+        seen.append((code, list(out) == [7] * 99 and answer[0] == 7))
+    return seen
+
+
 def nulls(library, job):
     """(code, answer unchanged) where each slice in turn, and each from it on, is null and empty."""
     empty = [dict(label=b''), dict(rankings=b''), dict(kinds=b''), dict(draws=[]), dict(room=0),
@@ -256,10 +190,10 @@ def nulls(library, job):
 
 def stack(folder):
     """Whether each call takes no more stack than README names."""
-    text = stored.content('README.md').decode()
+    readme = stored.content('README.md').decode()
     most = [int(x.replace(',', '')) for x in re.search(
-        r'at most ([\d,]+) bytes of stack for a check, ([\d,]+) for finding receipts and '
-        r'([\d,]+) for a board written', text).groups()]
+        r'at most ([\d,]+) bytes of stack for a check, ([\d,]+) for finding receipts, ([\d,]+) for a '
+        r'text and ([\d,]+) for a board written', readme).groups()]
     # memcpy is looked up before the first call: the dynamic linker's stack is none of the library's
     program = compile_c(('tests', 'stack.c'), os.path.join(folder, 'stack'), '-Wl,-z,now')
     longest = max(stored.finds(), key=lambda case: len(case.board))
@@ -270,30 +204,14 @@ def stack(folder):
     return [int(taken) <= named for taken, named in zip(words[1::2], most, strict=True)]
 
 
-def compare_hosts(comparison, hosts, folder):
-    boards, large, finds = stored.boards(), large_boards(), hosts_finds()
-    for name, program in hosts:
-        comparison.compare(name + ', stored boards',
-                           verdicts(program, [board.bytes for board in boards], folder),
-                           [due_of(board.verdict) for board in boards])
-        comparison.compare(name + ', boards beyond 65,536 bytes',
-                           verdicts(program, [board for board, _ in large], folder),
-                           [due_of(text) for _, text in large])
-        comparison.compare(name + ', files that cannot be read', unreadable(program),
-                           unreadable_due())
-        comparison.compare(name + ', stored finds',
-                           asked(program, [find for find, _ in finds], folder),
-                           [due for _, due in finds])
-        comparison.compare(name + ', digests and boards that cannot be read',
-                           unasked(program, folder), unasked_due())
-
-
 def compare_functions(comparison, library):
-    jobs, finds = stored.jobs(), stored.finds()
+    jobs, finds, texts = stored.jobs(), stored.finds(), stored.texts()
     comparison.compare('gooseoften_write, stored jobs', [reply(library, job) for job in jobs],
                        stored.content('crates', 'job_cases', 'stdout').decode().splitlines())
     comparison.compare('gooseoften_find, stored finds', [found_by(library, case) for case in finds],
                        [case.line for case in finds])
+    comparison.compare('gooseoften_text, stored texts', [told_by(library, case) for case in texts],
+                       [case.due for case in texts])
     sound = next(job for job in jobs if job.name == 'two')
     comparison.compare('null pointers of length 0', nulls(library, sound),
                        [(5, True), (13, True), (17, True), (14, True), (15, True), (13, True),
@@ -301,6 +219,8 @@ def compare_functions(comparison, library):
     board = next(board.bytes for board in stored.boards() if board.name == 'two')
     comparison.compare('null pointers of length 0, receipts', null_finds(library, board),
                        [(1, True), (0, True), (15, True), (0, True), (1, True)])
+    comparison.compare('null pointers of length 0, texts', null_texts(library, board),
+                       [(1, True), (21, True), (15, True), (21, True), (1, True)])
 
 
 def main(arguments):
@@ -311,7 +231,7 @@ def main(arguments):
         compare_hosts(comparison, build_hosts(folder, arguments), folder)
         if '--without-c' not in arguments:
             compare_functions(comparison, load_library(folder))
-            comparison.compare('stack of a call', stack(folder), [True] * 3)
+            comparison.compare('stack of a call', stack(folder), [True] * 4)
     return comparison.status()
 
 

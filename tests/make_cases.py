@@ -1,10 +1,11 @@
 #!/usr/bin/env python3
 """make_cases.py - makes the input and the expected output of the test programs `cases` (boards),
-`job_cases` (writer jobs) and `find_cases` (receipts), with the reference in tests/reference:
+`job_cases` (writer jobs), `find_cases` (receipts) and `text_cases` (counts in sentences), with the
+reference in tests/reference:
 
   python3 tests/make_cases.py [--check]
 
-It writes stdin and stdout of the three in crates/, and of boardcheck, whose input is the board
+It writes stdin and stdout of the four in crates/, and of boardcheck, whose input is the board
 `three` of the cases, and prints what the cases cover.  Every run makes the same bytes.  No program
 under test has a part in it.  With --check it writes nothing, and ends with 1 where a stored file is
 not what it makes.
@@ -16,8 +17,9 @@ piece is its length, a number, and then its bytes.
   a job:    name (a piece, ASCII), numbers n, K, p, q, g0, counter, length of the output, then label,
             rankings, kinds and draws (pieces; a draw is a number)
   a find:   name (a piece, ASCII), board and digests (pieces), number of places of the lent list
+  a text:   name (a piece, ASCII), board and names (pieces), length of the output
 
-The program prints a line for each frame:
+The program prints a line for each frame, of a text with the text behind it:
 
   NAME accepted rounds R out A out B winner W            as boardcheck prints it, on one line
   NAME refused NUMBER RECORD
@@ -25,10 +27,12 @@ The program prints a line for each frame:
   NAME refused NUMBER WHICH, output unchanged
   NAME found A B C, rest unchanged                       a number or 0 for each digest
   NAME refused NUMBER RECORD, list unchanged
+  NAME text LENGTH, rest unchanged
+  NAME refused NUMBER RECORD, output unchanged           of a text
 
 Before a job, byte i of the program's output buffer is i modulo 251; before a lookup, each of its 512
-numbers is 65535, and the first of them are lent.  The last words of a line say whether what should
-have been left alone is still so (`changed` if not).
+numbers is 65535, before a text each of its 2,048 bytes is 255, and the first of them are lent.  The
+last words of a line say whether what should have been left alone is still so (`changed` if not).
 """
 import hashlib
 import sys
@@ -39,6 +43,8 @@ import boardref as ref
 import board_cases
 import find_cases
 import job_cases
+import text_boards
+import text_cases
 import walks
 from boardref import be
 
@@ -89,6 +95,18 @@ def find_case(name, case, expect):
     return frame, '%s %s\n' % (name, line)
 
 
+def text_case(name, case, expect):
+    board, names, room = case
+    answer = ref.text(board, names, room)
+    assert answer == expect and room <= text_boards.ROOM, (name, expect, answer)
+    if answer[0] == 'refused':
+        line = 'refused %d %d, output unchanged\n' % answer[1:]
+    else:
+        line = 'text %d, rest unchanged\n%s' % (len(answer[1]), answer[1].decode())
+    frame = piece(name.encode()) + piece(board) + piece(names) + be(room, 4)
+    return frame, '%s %s' % (name, line)
+
+
 def make(cases, one):
     """The bytes of stdin and of stdout."""
     made = [one(name, case, expect) for name, case, expect, _ in cases.items]
@@ -120,7 +138,8 @@ def main(check):
     comparison = Comparison()
     boards = board_cases.boards()
     lists = (('cases', boards, board_case), ('job_cases', job_cases.jobs(), job_case),
-             ('find_cases', find_cases.finds(), find_case))
+             ('find_cases', find_cases.finds(), find_case),
+             ('text_cases', text_cases.texts(), text_case))
     rows = {crate: list(cases.rows()) for crate, cases, _ in lists}      # each has a case
     made = {crate: make(cases, one) for crate, cases, one in lists}
     made['boardcheck'] = sample(boards)

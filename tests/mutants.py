@@ -1,14 +1,15 @@
 #!/usr/bin/env python3
-"""mutants.py - are the stored cases of the test programs `cases`, `find_cases` and `job_cases` sharp
-enough?  The mutants of a challenge's message are in message_mutants.py, of audited ballots in
-audit_mutants.py, of draws that repeat in repeat_mutants.py, of the walk for receipts in
-find_mutants.py.
+"""mutants.py - are the stored cases of the test programs `cases`, `find_cases`, `text_cases` and
+`job_cases` sharp enough?  The mutants of a challenge's message are in message_mutants.py, of audited
+ballots in audit_mutants.py, of draws that repeat in repeat_mutants.py, of the walk for receipts in
+find_mutants.py, of the text in text_mutants.py.
 
   python3 tests/mutants.py
 
-Each mutant is the reference's checker, its finder of receipts or its writer, with one rule spoilt by a
-change of its text.  Prints for each the smallest stored case on which it answers otherwise; one that
-answers like the reference on all of them is reported, and the exit status is 1.  Takes two minutes."""
+Each mutant is the reference's checker, its finder of receipts, its teller of counts or its writer, with
+one rule spoilt by a change of its text.  Prints for each the smallest stored case on which it answers
+otherwise; one that answers like the reference on all of them is reported, and the exit status is 1.
+Takes three minutes."""
 import collections
 import os
 import sys
@@ -21,10 +22,11 @@ import audit_mutants
 import find_mutants
 import message_mutants
 import repeat_mutants
+import text_mutants
 
 # the modules of the reference, each after those that it imports
 MODULES = ('board.sizes', 'board.group', 'board.proofs', 'board.count', 'board.plain_count',
-           'board.reading', 'board.check', 'board.find', 'board.write', 'boardref')
+           'board.reading', 'board.check', 'board.find', 'board.text', 'board.write', 'boardref')
 
 Question = collections.namedtuple('Question', 'case function arguments')
 
@@ -261,6 +263,26 @@ def finds():
             for find in stored.finds()]
 
 
+def all_texts():
+    return [Question(text.name, 'text', (text.board, text.names, text.room))
+            for text in stored.texts()]
+
+
+def names():
+    """The texts made for names."""
+    return [question for question in all_texts() if question.case.startswith(('names.', 'one'))]
+
+
+def told():
+    """The others."""
+    return [question for question in all_texts() if not question.case.startswith(('names.', 'one'))]
+
+
+def counts():
+    """The texts made for counts of several digits."""
+    return [question for question in all_texts() if question.case.startswith('counts-')]
+
+
 def size(question):
     return sum(len(x) for x in question.arguments if isinstance(x, bytes))
 
@@ -314,7 +336,12 @@ def main():
                                      ('writers, audits', audit_mutants.WRITERS, jobs()),
                                      ('writers, repeats', repeat_mutants.WRITERS, repeats()),
                                      ('finders', find_mutants.FINDERS, finds()),
-                                     ('finders, audits', audit_mutants.FINDERS, finds())):
+                                     ('finders, audits', audit_mutants.FINDERS, finds()),
+                                     ('tellers, names', text_mutants.NAMES, names()),
+                                     ('tellers, counts', text_mutants.COUNTS, counts()),
+                                     ('tellers, sentences', text_mutants.SENTENCES, told()),
+                                     ('tellers, orders', text_mutants.ORDERS, all_texts()),
+                                     ('tellers, boards', text_mutants.BOARDS, told())):
         some = survivors(texts, mutants, questions, right)
         print('%s: %d mutants, %d survive' % (what, len(mutants), len(some)))
         left += some

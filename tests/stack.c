@@ -3,8 +3,9 @@
  *
  *   stack BOARD DIGESTS
  *
- * It writes a board of 8 processes in 7 rounds, of three ballots one audited, checks it, finds the
- * digests of a file on the board of another, and prints the bytes of each call. */
+ * It writes a board of 8 processes in 7 rounds, of three ballots one audited, checks it, tells its
+ * count with names of 20 letters, finds the digests of a file on the board of another, and prints the
+ * bytes of each call. */
 #define _GNU_SOURCE
 #include <stdbool.h>
 #include <stdio.h>
@@ -15,8 +16,9 @@
 #include "gooseoften.h"
 
 enum { ROOM = 1 << 20, FILL = 0xa5, N = 8, K = 3, DRAWS = 10000, BOARD = 1 << 18, DIGESTS = 500 };
+enum { NAME = 21 }; /* 20 letters and a line feed */
 
-static uint8_t board[BOARD], digests[DIGESTS * 32];
+static uint8_t board[BOARD], digests[DIGESTS * 32], text[GOOSEOFTEN_TEXT_MOST];
 static size_t length, digests_length, code;
 static uint16_t found[DIGESTS];
 static size_t answer[GOOSEOFTEN_WRITE_LENGTH];
@@ -30,6 +32,16 @@ static void check(void)
 static void find(void)
 {
     code = gooseoften_find(board, length, digests, digests_length, found, DIGESTS);
+}
+
+static void tell(void)
+{
+    static uint8_t names[N * NAME];
+    for (int i = 0; i < N; i++) {
+        memset(names + i * NAME, 'A' + i, NAME - 1);
+        names[i * NAME + NAME - 1] = '\n';
+    }
+    code = gooseoften_text(board, length, names, sizeof names, text, sizeof text, answer);
 }
 
 static void write_board(void)
@@ -105,10 +117,12 @@ int main(int count, char **names)
     see("the board was not written", code == 0 && answer[GOOSEOFTEN_ROUNDS] == N - 1);
     size_t checks = stack_of(check);
     see("the board was not accepted", code == 0);
+    size_t texts = stack_of(tell);
+    see("the count was not told", code == 0 && text[answer[0] - 1] == '\n');
     length = read_file(names[1], board, sizeof board);
     digests_length = read_file(names[2], digests, sizeof digests);
     size_t finds = stack_of(find);
     see("the board was not walked", code == 0);
-    printf("check %zu find %zu write %zu\n", checks, finds, writes);
+    printf("check %zu find %zu text %zu write %zu\n", checks, finds, texts, writes);
     return 0;
 }

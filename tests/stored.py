@@ -1,7 +1,8 @@
-"""What the test scripts share: the paths, the stored boards, jobs and finds, and how results are
+"""What the test scripts share: the paths, the stored boards, jobs, finds and texts, and how results are
 compared."""
 import collections
 import os
+import re
 import sys
 
 sys.dont_write_bytecode = True
@@ -14,6 +15,7 @@ LIMIT = 65536                                                # of boardcheck's b
 Board = collections.namedtuple('Board', 'name bytes verdict')
 Job = collections.namedtuple('Job', 'name n K p q g0 counter room label rankings kinds draws')
 Find = collections.namedtuple('Find', 'name board digests room line')
+Text = collections.namedtuple('Text', 'name board names room due')
 
 
 def path(*parts):
@@ -94,6 +96,24 @@ def finds():
                            frames.number(), line))
         assert line.startswith(stored[-1].name + ' '), line
     assert not frames.more()
+    return stored
+
+
+def texts():
+    """Each stored text: a board, names, the length of the lent output, and what is due: a line, and the
+    text behind it."""
+    frames = Frames(content('crates', 'text_cases', 'stdin'))
+    due = content('crates', 'text_cases', 'stdout').decode()
+    stored = []
+    while frames.more():
+        name, board, names, room = (frames.piece().decode(), frames.piece(), frames.piece(),
+                                    frames.number())
+        line = re.match(r'(\S+) (?:text (\d+), rest|refused \d+ \d+, output) unchanged\n', due)
+        assert line[1] == name, name
+        end = line.end() + int(line[2] or 0)
+        stored.append(Text(name, board, names, room, due[:end]))
+        due = due[end:]
+    assert not due
     return stored
 
 

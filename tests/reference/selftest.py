@@ -2,14 +2,15 @@
 """selftest.py [jobs] [seed]  - asserts 01's hand-tried cases and elections with equal counts worked
 by hand, thousands of random elections and jobs, every refusal number, what the proof claims mean (by
 brute-force logarithms in p = 23), the messages of challenges by hand and in a second way, audited
-ballots by hand and in a second way, x that a matrix uses twice by hand and in a second way, and
-receipts that are found in a second way.  The folder selftests has them, by subject."""
+ballots by hand and in a second way, x that a matrix uses twice by hand and in a second way, receipts
+that are found in a second way, and counts in sentences by hand and read back.  The folder selftests
+has them, by subject."""
 import sys
 import time
 
 sys.dont_write_bytecode = True
 
-from selftests import audits, counts, messages, repeats
+from selftests import audits, counts, messages, repeats, texts
 from selftests.claims import claims_mean_what_they_say
 from selftests.hand import hand_cases
 from selftests.jobs import craft_and_write_agree, random_jobs, worked_jobs
@@ -21,6 +22,7 @@ def main(count, seed):
     start = time.time()
     board = hand_cases()
     find_by_hand(board)
+    texts.by_hand(board)
     counts.by_hand()
     worked_jobs()
     messages.bytes_by_hand()
@@ -44,6 +46,9 @@ def main(count, seed):
     seen = random_finds(count, seed)
     print('%d random boards: receipts found alike in two ways' % count)
     print('  answers:', dict(sorted(seen.items(), key=str)))
+    seen = texts.random_texts(count // 5, seed)
+    print('%d random boards: texts read back as the plain count, or refused as due' % (count // 5))
+    print('  answers:', dict(sorted(seen.items())))
     rounds_seen, refusals, audited, refused = random_jobs(count, seed)
     print('%d random jobs: their boards accepted, equal to the plain count; %d written, %d refused, on '
           'whose boards a matrix has two equal Y; %d audited ballots show what was given'

@@ -5,7 +5,6 @@ use crate::records;
 use crate::records::RoundPlan;
 use crate::sheet;
 use count::Count;
-use plain::rankings;
 use plain::rounds;
 ghost use mathlib.Core.Path.{_≡_};
 ghost use mathlib.Core.List.{_++_};
@@ -28,7 +27,7 @@ fn plan_of(count: Count, m: usize, old: usize, new: usize) -> RoundPlan
     let sheets = count.sheets;
     let sheet = sheets[m];
     let out = order[m];
-    let gone = rankings::first_of(order, m);
+    let gone = count::first_of(order, m);
     if m == 0 {
         return RoundPlan {
             m,
@@ -41,7 +40,7 @@ fn plan_of(count: Count, m: usize, old: usize, new: usize) -> RoundPlan
             sheet,
         };
     }
-    let before = rankings::first_of(order, m - 1);
+    let before = count::first_of(order, m - 1);
     let a = order[m - 1];
     RoundPlan {
         m,

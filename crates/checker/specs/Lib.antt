@@ -1,2 +1,3 @@
 -- The models whose boards the checker reads.
 pub mod Models
+pub mod Counts

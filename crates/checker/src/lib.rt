@@ -1,4 +1,4 @@
-// The checker of a board: the rounds in order, and the verdict.
+// The checker of a board: the rounds in order, the verdict and the count.
 use count::Count;
 use frames::Fault;
 use header::Head;
@@ -15,46 +15,53 @@ use rules::Model;
 use rules::Refusal;
 ghost use mathlib.Core.Path.{_≡_};
 ghost use Prim.Native.Nat.{_+_, _<_};
-ghost use lib.ListN.{replicate};
 ghost use Rattle.sha256.specs.Message.{sha256};
 ghost use Rattle.rules.specs.Records.{headerLength};
 ghost use Rattle.rules.specs.Count.{start};
-ghost use Rattle.rules.specs.Header.{ranked};
-ghost use Rattle.rules.specs.Check.{accepted, refused, checkFrom, checkModel, checkBoard};
-ghost use Rattle.rules.specs.Answers.{refusalNumber, verdictOf, orderOf};
-ghost use Rattle.count.specs.State.{standingOf, Kept};
+ghost use Rattle.rules.specs.Header.{ranked, header};
+ghost use Rattle.rules.specs.Check.{checkFrom, checkModel, checkBoard};
+ghost use Rattle.rules.specs.Answers.{verdictOf, orderOf};
+ghost use Rattle.count.specs.State.{Kept};
 ghost use Rattle.header.specs.Heads.{headOf, HeaderKnown, HeaderReads};
 ghost use Rattle.round.specs.Rounds.{Begins, Later};
 ghost use Rattle.round.specs.Walks.{Walked, RecordPasses};
 ghost use Rattle.round.specs.Outcomes.{RecordsReads, Rounded};
 ghost use Rattle.checker.specs.Models.{Narrower};
+ghost use Rattle.checker.specs.Counts.{Verified};
 
 mod reading;
 
-fn refused(why: Refusal, number: usize) -> Checked
-    ensures { λ r. ⌜ (verdictOf r ≡ refused (refusalNumber why) number) × (r .order ≡ replicate 8 0) ⌝ }
+// The answer to a board and the count that its sheets came to, up to where it is refused; of an accepted one the number of processes, too.
+pub struct Counted {
+    pub answer: Answer,
+    pub n: usize,
+    pub count: Count,
+}
+
+fn refused(why: Refusal, number: usize, count: Count) -> Counted
+    ensures { λ r. ⌜ r .answer ≡ Answer.Refused why number ⌝ }
 {
-    Checked {
+    Counted {
         answer: Answer::Refused {
             refusal: why,
             record: number,
         },
-        order: [0u8; 8],
+        n: 0,
+        count,
     }
 }
 
-fn accepted(count: Count, n: usize, winner: usize) -> Checked
+fn accepted(count: Count, n: usize, winner: usize) -> Counted
     requires { ⌜ Kept count ⌝ }
-    ensures { λ r. ⌜ (verdictOf r ≡ accepted (count .gone .outs + 1) (standingOf n count .gone) winner) × (r .order ≡ orderOf (accepted (count .gone .outs + 1) (standingOf n count .gone) winner)) ⌝ }
+    ensures { λ r. ⌜ (r .answer ≡ Answer.Accepted (count .gone .outs + 1) winner) × (r .n ≡ n) × (r .count ≡ count) ⌝ }
 {
-    let gone = count.gone;
-    let order = gone.order;
-    Checked {
+    Counted {
         answer: Answer::Accepted {
-            rounds: gone.outs + 1,
+            rounds: count.gone.outs + 1,
             winner,
         },
-        order,
+        n,
+        count,
     }
 }
 
@@ -117,9 +124,9 @@ fn read_round(board: &[u8], at: usize, h: Head, count: Count, round: Round) -> R
 }
 
 // The rounds from a place on, one after another. Each sheet takes the standing count and hands back the next.
-fn rounds(board: &[u8], at: usize, h: Head) -> Checked
+fn rounds(board: &[u8], at: usize, h: Head) -> Counted
     requires { ⌜ HeaderKnown ranked (now board) h × (at ≡ headerLength) ⌝ }
-    ensures { λ r. ⌜ (verdictOf r ≡ checkFrom sha256 (now (board .entry)) (headOf (now (board .entry)) h) (h .n) start 0 0) × (r .order ≡ orderOf (checkFrom sha256 (now (board .entry)) (headOf (now (board .entry)) h) (h .n) start 0 0)) ⌝ }
+    ensures { λ r. ⌜ Verified (now (board .entry)) (headOf (now (board .entry)) h) (checkFrom sha256 (now (board .entry)) (headOf (now (board .entry)) h) (h .n) start 0 0) r ⌝ }
 {
     let head = h;
     let n = h.n;
@@ -131,7 +138,8 @@ fn rounds(board: &[u8], at: usize, h: Head) -> Checked
         let outcome = read.outcome;
         match outcome {
             RoundOutcome::Refused(why, number) => {
-                return refused(why, number);
+                let so_far = read.count;
+                return refused(why, number, so_far);
             }
             RoundOutcome::Closed(winner) => {
                 let ended = read.count;
@@ -148,29 +156,48 @@ fn rounds(board: &[u8], at: usize, h: Head) -> Checked
 }
 
 // The verdict on a board of a model whose header was read, its rounds being read from a place on.
-fn verdict(board: &[u8], at: usize, model: Model, read: HeaderRead) -> Checked
+fn verdict(board: &[u8], at: usize, model: Model, read: HeaderRead) -> Counted
     requires { ⌜ Narrower model × HeaderReads model (now board) read × (at ≡ headerLength) ⌝ }
-    ensures { λ r. ⌜ (verdictOf r ≡ checkModel sha256 (now (board .entry)) model) × (r .order ≡ orderOf (checkModel sha256 (now (board .entry)) model)) ⌝ }
+    ensures { λ r. ⌜ Verified (now (board .entry)) (header (now (board .entry))) (checkModel sha256 (now (board .entry)) model) r ⌝ }
 {
     match read {
         HeaderRead::Board(h) => rounds(board, at, h),
-        HeaderRead::Refused(why) => refused(why, 0),
+        HeaderRead::Refused(why) => refused(why, 0, Count::new()),
     }
 }
 
 // The verdict on a board of a model. Its header is read at the first place, the rounds from the place after it on.
-fn check_model(board: &[u8], model: Model) -> Checked
+fn check_model(board: &[u8], model: Model) -> Counted
     requires { ⌜ Narrower model ⌝ }
-    ensures { λ r. ⌜ (verdictOf r ≡ checkModel sha256 (now (board .entry)) model) × (r .order ≡ orderOf (checkModel sha256 (now (board .entry)) model)) ⌝ }
+    ensures { λ r. ⌜ Verified (now (board .entry)) (header (now (board .entry))) (checkModel sha256 (now (board .entry)) model) r ⌝ }
 {
     let r = reading::start(board, 0);
     let read = reading::header_of(r, model);
     reading::verdict_of(reading::moved(r, layout::HEADER_LENGTH), model, read)
 }
 
-// The verdict on a board of rankings.
+// The verdict on a board of rankings, and its count.
+pub fn count_board(board: &[u8]) -> Counted
+    ensures { λ r. ⌜ Verified (now (board .entry)) (header (now (board .entry))) (checkBoard sha256 (now (board .entry))) r ⌝ }
+{
+    check_model(board, layout::ranked())
+}
+
+// The verdict alone.
 pub fn check(board: &[u8]) -> Checked
     ensures { λ r. ⌜ (verdictOf r ≡ checkBoard sha256 (now (board .entry))) × (r .order ≡ orderOf (checkBoard sha256 (now (board .entry)))) ⌝ }
 {
-    check_model(board, layout::ranked())
+    let counted = count_board(board);
+    let answer = counted.answer;
+    let order = match answer {
+        Answer::Accepted {
+            rounds: _,
+            winner: _,
+        } => counted.count.gone.order,
+        Answer::Refused {
+            refusal: _,
+            record: _,
+        } => [0u8; 8],
+    };
+    Checked { answer, order }
 }

@@ -1,5 +1,6 @@
 // A lent board and its next unread place, together: what the header and the rounds are read with. The functions over it are few and leave the
 // work to others, on a plain slice and a place: their proofs follow the code by hand, step by step.
+use crate::Counted;
 use count::Count;
 use header::Head;
 use header::HeaderRead;
@@ -8,22 +9,21 @@ use round::RecordsRead;
 use round::Round;
 use round::RoundRead;
 use round::Walk;
-use rules::Checked;
 use rules::Model;
 ghost use mathlib.Core.Path.{_≡_};
 ghost use Prim.Native.Nat.{_+_, _≤_, _<_};
 ghost use lib.ListN.{length, drop};
 ghost use Rattle.sha256.specs.Message.{sha256};
 ghost use Rattle.rules.specs.Records.{headerLength};
-ghost use Rattle.rules.specs.Header.{ranked};
+ghost use Rattle.rules.specs.Header.{ranked, header};
 ghost use Rattle.rules.specs.Check.{checkModel};
-ghost use Rattle.rules.specs.Answers.{verdictOf, orderOf};
 ghost use Rattle.count.specs.State.{Kept};
 ghost use Rattle.header.specs.Heads.{HeaderKnown, HeaderReads};
 ghost use Rattle.round.specs.Rounds.{Later};
 ghost use Rattle.round.specs.Walks.{Walked, RecordPasses};
 ghost use Rattle.round.specs.Outcomes.{RecordsReads, Rounded};
 ghost use Rattle.checker.specs.Models.{Narrower};
+ghost use Rattle.checker.specs.Counts.{Verified};
 
 pub struct Reading<'a> {
     board: &'a [u8],
@@ -87,9 +87,9 @@ pub fn sheet_of<'a>(
 }
 
 // The verdict on a board whose header was read, its rounds being read from the next place on.
-pub fn verdict_of<'a>(r: Reading<'a>, model: Model, read: HeaderRead) -> Checked
+pub fn verdict_of<'a>(r: Reading<'a>, model: Model, read: HeaderRead) -> Counted
     requires { ⌜ Narrower model × HeaderReads model (now (r .board)) read × (r .next ≡ headerLength) ⌝ }
-    ensures { λ c. ⌜ (verdictOf c ≡ checkModel sha256 (now (r .entry .board)) model) × (c .order ≡ orderOf (checkModel sha256 (now (r .entry .board)) model)) ⌝ }
+    ensures { λ c. ⌜ Verified (now (r .entry .board)) (header (now (r .entry .board))) (checkModel sha256 (now (r .entry .board)) model) c ⌝ }
 {
     crate::verdict(r.board, r.next, model, read)
 }

@@ -14,7 +14,7 @@ use Rattle.count.specs.State.{countsBy, countsOn}
 use Rattle.count.specs.declared.Sheet.{Sheet}
 
 -- an element of a list, mapped, whatever stands past the ends
-map-at : {A B : Type 0} (f : A → B) (l : List A) (m : ℕ) (d : A) (e : B) → m < length l → getD (map f l) m e ≡ f (getD l m d)
+pub map-at : {A B : Type 0} (f : A → B) (l : List A) (m : ℕ) (d : A) (e : B) → m < length l → getD (map f l) m e ≡ f (getD l m d)
 map-at f [] m d e h = absurd (not-suc-le-zero h)
 map-at f (x ∷ xs) zero d e h = refl
 map-at f (x ∷ xs) (suc m) d e h = map-at f xs m d e (le-of-suc-le-suc h)

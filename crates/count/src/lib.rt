@@ -1,6 +1,7 @@
 // The standing count by value: each sheet takes it and hands back the next.
 ghost use mathlib.Core.Path.{_≡_};
 ghost use Prim.Native.Nat.{ℕ, _+_, _*_, _≤_, _<_};
+ghost use lib.ListN.{take};
 ghost use Rattle.rules.specs.Count.{member, start, ended, fewer, behind, leaves, wins, closes, majority};
 ghost use Rattle.count.specs.State.{countsBy, countsOn, listOf, standingOf, resultOf, wentOut, Listed, Kept, replaces, picked, pickOf, passes};
 
@@ -52,6 +53,18 @@ fn passes(out: bool, votes: u32, k: u32) -> bool
         return false;
     }
     numbers::wide64(k) < 2 * numbers::wide64(votes)
+}
+
+// The first of an order of going out.
+pub fn first_of(order: [u8; 8], outs: usize) -> Gone
+    requires { ⌜ outs ≤ 8 ⌝ }
+    ensures { λ r. ⌜ (r .outs ≡ outs) × Listed r × (listOf r ≡ take outs order) ⌝ }
+{
+    let mut first = [0u8; 8];
+    for i in 0..outs {
+        first[i] = order[i];
+    }
+    Gone { outs, order: first }
 }
 
 impl Gone {

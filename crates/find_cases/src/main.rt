@@ -3,10 +3,12 @@ mod list;
 
 use rules::Found;
 use testing::input;
-use testing::input::Piece;
+use testing::input::Ends;
+use testing::input::Question;
 use testing::print;
 ghost use Prim.Native.Nat.{_≤_};
 ghost use lib.ListN.{length};
+ghost use Rattle.testing.specs.Input.{Within};
 
 // The first numbers of a list.
 fn print_numbers(list: &[u16], count: usize) {
@@ -54,36 +56,34 @@ fn answer(name: &[u8], board: &[u8], digests: &[u8], room: usize) -> bool {
     true
 }
 
-// The case at a place: a name, a board, digests, and a number, the places of the list. The place after it, or 0 where it is damaged.
-fn answer_at(s: &[u8], at: usize) -> usize {
-    let Piece::Bytes(a, b) = input::piece_at(s, at) else {
-        return 0;
-    };
-    let Piece::Bytes(c, d) = input::piece_at(s, b) else {
-        return 0;
-    };
-    let Piece::Bytes(e, f) = input::piece_at(s, d) else {
-        return 0;
-    };
-    if s.len() - f < 4 {
-        return 0;
-    }
-    let room = numbers::wide32(fields::number4(s, f));
-    if !answer(&s[a..b], &s[c..d], &s[e..f], room) {
-        return 0;
-    }
-    f + 4
+// The same for the case at a place.
+fn answer_at(s: &[u8], at: usize, ends: Ends) -> bool
+    requires { ⌜ Within (now s) at ends ⌝ }
+{
+    let name = ends.name;
+    let board = ends.board;
+    let digests = ends.asked;
+    let room = numbers::wide32(fields::number4(s, digests));
+    answer(
+        &s[at + 4..name],
+        &s[name + 4..board],
+        &s[board + 4..digests],
+        room,
+    )
 }
 
 fn run(s: &[u8]) {
     let mut at = 0;
     while at < s.len() {
-        let next = answer_at(s, at);
-        if next <= at {
+        let Question::Asked(ends) = input::question_at(s, at) else {
+            print::bad_input();
+            return;
+        };
+        if !answer_at(s, at, ends) {
             print::bad_input();
             return;
         }
-        at = next;
+        at = ends.asked + 4;
     }
 }
 

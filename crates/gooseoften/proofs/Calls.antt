@@ -1,19 +1,22 @@
--- What the functions of the library return, by what `check` and `write` answer.
+-- What the functions of the library return, by what `check`, `write` and `text` answer.
 use Prim.Native.Nat.{ℕ}
 use mathlib.Core.Path.{_≡_, _∙_, ap}
 use mathlib.Core.List.{List}
 use Rattle.sha256.specs.Message.{sha256}
 use Rattle.rules.specs.Check.{Verdict, checkBoard}
-use Rattle.rules.specs.Answers.{answerOf, orderOf}
+use Rattle.rules.specs.Notice.{Telling, textOutcome}
+use Rattle.rules.specs.Answers.{answerOf, orderOf, tellingOf}
 use Rattle.rules.specs.declared.Answer.{Answer}
 use Rattle.rules.specs.declared.Answer.the-variants as A
+use Rattle.rules.specs.declared.Told.{Told}
+use Rattle.rules.specs.declared.Told.the-variants as T
 use Rattle.jobs.specs.Job.{Job}
 use Rattle.jobs.specs.Write.{Outcome, writeOutcome}
 use Rattle.jobs.specs.Replies.{replyOf, orderWritten}
 use Rattle.jobs.specs.declared.Reply.{Reply}
 use Rattle.jobs.specs.declared.Reply.the-variants as W
-use Rattle.gooseoften.specs.Answers.{checkCode, checkAnswer, writeCode, writeAnswer}
-use Rattle.gooseoften.specs.Puts.{checkPut, replyPut}
+use Rattle.gooseoften.specs.Answers.{checkCode, checkAnswer, writeCode, writeAnswer, textCode, textAnswer}
+use Rattle.gooseoften.specs.Puts.{checkPut, replyPut, toldPut}
 
 -- the array holds the order and its zeros
 put-is : (a : Answer) (order answer : List ℕ) (v : Verdict) → answerOf a order ≡ v → order ≡ orderOf v → checkPut a order answer ≡ checkAnswer v answer
@@ -35,3 +38,12 @@ pub replied : (job : Job) (room : ℕ) (answer exit : List ℕ) (a : Reply) (ord
     code ≡ writeCode (replyOf a order) → exit ≡ replyPut a order answer →
     (code ≡ writeCode (writeOutcome sha256 job room)) × (exit ≡ writeAnswer (writeOutcome sha256 job room) answer)
 replied job room answer exit a order code e o ec ex = (ec ∙ ap writeCode e, ex ∙ reply-is a order answer (writeOutcome sha256 job room) e o)
+
+told-is : (a : Told) (out answer : List ℕ) (t : Telling) → tellingOf a out ≡ t → toldPut a answer ≡ textAnswer t answer
+told-is (T.Text long) out answer t e = rw (← e)
+told-is (T.Refused refusal place) out answer t e = rw (← e)
+
+pub told : (board names answer exit out : List ℕ) (room : ℕ) (a : Told) (code : ℕ) → tellingOf a out ≡ textOutcome sha256 board names room →
+    code ≡ textCode (tellingOf a out) → exit ≡ toldPut a answer →
+    (code ≡ textCode (textOutcome sha256 board names room)) × (exit ≡ textAnswer (textOutcome sha256 board names room) answer)
+told board names answer exit out room a code e ec ex = (ec ∙ ap textCode e, ex ∙ told-is a out answer (textOutcome sha256 board names room) e)

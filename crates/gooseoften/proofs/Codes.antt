@@ -6,18 +6,21 @@ use native.Mathlib.Omega.{arith}
 use Rattle.sha256.specs.Message.{sha256}
 use Rattle.rules.specs.Check.{checkBoard}
 use Rattle.rules.specs.Receipts.{findOutcome}
-use Rattle.rules.specs.Answers.{refusalNumber, answerOf, findingOf}
+use Rattle.rules.specs.Notice.{textOutcome}
+use Rattle.rules.specs.Answers.{refusalNumber, answerOf, findingOf, tellingOf}
 use Rattle.rules.specs.declared.Answer.{Answer}
 use Rattle.rules.specs.declared.Answer.the-variants as A
 use Rattle.rules.specs.declared.Found.{Found}
 use Rattle.rules.specs.declared.Found.the-variants as F
+use Rattle.rules.specs.declared.Told.{Told}
+use Rattle.rules.specs.declared.Told.the-variants as T
 use Rattle.jobs.specs.Job.{Job}
 use Rattle.jobs.specs.Write.{writeOutcome}
 use Rattle.jobs.specs.Replies.{replyOf}
 use Rattle.jobs.specs.declared.Reply.{Reply}
 use Rattle.jobs.specs.declared.Reply.the-variants as W
-use Rattle.whole.proofs.Refusals.{board-refusal, job-refusal, find-refusal}
-use Rattle.gooseoften.specs.Puts.{recordNamed, rankingNamed, foundNamed}
+use Rattle.whole.proofs.Refusals.{board-refusal, job-refusal, find-refusal, text-refusal}
+use Rattle.gooseoften.specs.Puts.{recordNamed, rankingNamed, foundNamed, toldNamed}
 
 -- at most 7 rounds of 1,000 ballots and a sheet, and a record more
 pub placed : (board : List ℕ) (a : Answer) (order : List ℕ) → answerOf a order ≡ checkBoard sha256 board → recordNamed a ≤ 7008
@@ -35,3 +38,8 @@ pub found-placed : (board digests : List ℕ) (room : ℕ) (a : Found) (numbers 
 found-placed board digests room F.Listed numbers e = omega arith
 found-placed board digests room (F.Refused refusal place) numbers e =
     omega (arith, find-refusal sha256 board digests room (refusalNumber refusal) place (sym e) .most)
+
+-- a record of the board, or 0
+pub told-placed : (board names : List ℕ) (room : ℕ) (a : Told) (out : List ℕ) → tellingOf a out ≡ textOutcome sha256 board names room → toldNamed a ≤ 7008
+told-placed board names room (T.Text long) out e = omega arith
+told-placed board names room (T.Refused refusal place) out e = text-refusal sha256 board names room (refusalNumber refusal) place (sym e) .most

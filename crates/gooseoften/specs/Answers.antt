@@ -3,6 +3,7 @@ use Prim.Native.Nat.{ℕ, _+_, _*_}
 use mathlib.Core.List.{List, [], _∷_, _++_}
 use Rattle.rules.specs.Check.{Verdict, accepted, refused}
 use Rattle.rules.specs.Receipts.{Finding, numbersFound, findRefused}
+use Rattle.rules.specs.Notice.{Telling, textTold, textRefused}
 use Rattle.rules.specs.Answers.{withZeros}
 use Rattle.jobs.specs.Job.{Job}
 use Rattle.jobs.specs.Write.{Outcome, boardWritten, jobRefused}
@@ -46,3 +47,13 @@ writeAnswer (jobRefused number ranking) answer = answer
 abbrev pub findCode : Finding → ℕ
 findCode (numbersFound numbers) = 0
 findCode (findRefused number place) = refusalCode number place
+
+-- ---- text: 0 and the text's length, or the refusal and no change
+
+abbrev pub textCode : Telling → ℕ
+textCode (textTold long text) = 0
+textCode (textRefused number place) = refusalCode number place
+
+abbrev pub textAnswer : Telling → (answer : List ℕ) → List ℕ
+textAnswer (textTold long text) answer = written (long ∷ []) answer
+textAnswer (textRefused number place) answer = answer

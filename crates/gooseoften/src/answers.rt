@@ -3,15 +3,16 @@ use jobs::Reply;
 use rules::Answer;
 use rules::Found;
 use rules::Refusal;
+use rules::Told;
 ghost use mathlib.Core.Path.{_≡_};
 ghost use Prim.Native.Nat.{ℕ, _≤_};
 ghost use mathlib.Core.List.{List, [], _∷_};
 ghost use lib.ListN.{length};
-ghost use Rattle.rules.specs.Answers.{refusalNumber, answerOf, findingOf};
+ghost use Rattle.rules.specs.Answers.{refusalNumber, answerOf, findingOf, tellingOf};
 ghost use Rattle.jobs.specs.Replies.{replyOf};
 ghost use Rattle.output.specs.Written.{written};
-ghost use Rattle.gooseoften.specs.Answers.{refusalCode, resultNumbers, checkCode, writeCode, findCode};
-ghost use Rattle.gooseoften.specs.Puts.{recordNamed, rankingNamed, foundNamed, checkPut, replyPut};
+ghost use Rattle.gooseoften.specs.Answers.{refusalCode, resultNumbers, checkCode, writeCode, findCode, textCode};
+ghost use Rattle.gooseoften.specs.Puts.{recordNamed, rankingNamed, foundNamed, toldNamed, checkPut, replyPut, toldPut};
 
 fn put_one(answer: &mut [usize], x: usize)
     requires { ⌜ 1 ≤ length (now answer) ⌝ }
@@ -98,5 +99,21 @@ pub fn found_code(answer: Found) -> usize
     match answer {
         Found::Listed => 0,
         Found::Refused { refusal, record } => code(refusal, record),
+    }
+}
+
+// What text answered: its code, whatever the text, and the text's length is put into the answer.
+pub fn put_told(answer: &mut [usize], told: Told) -> usize
+    requires { ⌜ 1 ≤ length (now answer) ⌝ }
+    requires { ⌜ toldNamed told ≤ 7008 ⌝ }
+    ensures { λ r. ⌜ ((out : List ℕ) → r ≡ textCode (tellingOf told out)) ⌝ }
+    ensures { λ _. ⌜ now (answer .exit) ≡ toldPut told (now (answer .entry)) ⌝ }
+{
+    match told {
+        Told::Text { length } => {
+            put_one(answer, length);
+            0
+        }
+        Told::Refused { refusal, record } => code(refusal, record),
     }
 }

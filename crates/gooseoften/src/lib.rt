@@ -1,4 +1,4 @@
-// The box's library: check, write and find for programs in C, with numbers, slices and arrays of fixed length alone. include/gooseoften.h declares them.
+// The box's library: check, write, find and text for programs in C, with numbers, slices and arrays of fixed length alone. include/gooseoften.h declares them.
 use group::Element;
 use validity::Job;
 ghost use mathlib.Core.Path.{_≡_};
@@ -6,8 +6,9 @@ ghost use lib.ListN.{length};
 ghost use Rattle.sha256.specs.Message.{sha256};
 ghost use Rattle.rules.specs.Check.{checkBoard};
 ghost use Rattle.rules.specs.Receipts.{findOutcome, listAfter};
+ghost use Rattle.rules.specs.Notice.{textOutcome, outputAfter};
 ghost use Rattle.jobs.specs.Write.{writeOutcome, writeOutput};
-ghost use Rattle.gooseoften.specs.Answers.{job, checkCode, checkAnswer, writeCode, writeAnswer, findCode};
+ghost use Rattle.gooseoften.specs.Answers.{job, checkCode, checkAnswer, writeCode, writeAnswer, findCode, textCode, textAnswer};
 
 mod answers;
 
@@ -65,4 +66,20 @@ pub extern "C" fn gooseoften_find(board: &[u8], digests: &[u8], found: &mut [u16
 {
     let answer = receipts::find(board, digests, found);
     answers::found_code(answer)
+}
+
+// The count of a board in sentences, with the names of its processes, written into out.
+#[no_mangle]
+pub extern "C" fn gooseoften_text(
+    board: &[u8],
+    names: &[u8],
+    out: &mut [u8],
+    answer: &mut [usize; 1],
+) -> usize
+    ensures { λ r. ⌜ r ≡ textCode (textOutcome sha256 (now (board .entry)) (now (names .entry)) (length (now (out .entry)))) ⌝ }
+    ensures { λ _. ⌜ now (answer .exit) ≡ textAnswer (textOutcome sha256 (now (board .entry)) (now (names .entry)) (length (now (out .entry)))) (now (answer .entry)) ⌝ }
+    ensures { λ _. ⌜ now (out .exit) ≡ outputAfter (textOutcome sha256 (now (board .entry)) (now (names .entry)) (length (now (out .entry)))) (now (out .entry)) ⌝ }
+{
+    let told = notice::text(board, names, out);
+    answers::put_told(answer, told)
 }

@@ -1,7 +1,6 @@
-// The buffers of a job: its draws, and an output filled with a pattern.
+// The buffers of a job: its draws, and its output.
 ghost use mathlib.Core.Path.{_≡_};
-ghost use mathlib.Core.Bool.{true};
-ghost use Prim.Native.Nat.{ℕ, _*_, _/_, _%_, _≤_, _<_};
+ghost use Prim.Native.Nat.{ℕ, _*_, _/_, _≤_, _<_};
 ghost use lib.ListN.{length, getD};
 ghost use Rattle.rules.specs.Bytes.{number4};
 
@@ -15,7 +14,7 @@ fn no_draws() -> [u32; DRAWS]
     [0; DRAWS]
 }
 
-fn no_output() -> [u8; ROOM]
+pub fn no_output() -> [u8; ROOM]
     ensures { λ r. ⌜ 262144 ≡ length r ⌝ }
 {
     [0; ROOM]
@@ -32,35 +31,4 @@ pub fn draws_of(bytes: &[u8]) -> [u32; DRAWS]
         draws[i] = fields::number4(bytes, 4 * i);
     }
     draws
-}
-
-// What stands at a place of the pattern.
-fn mark(i: usize) -> u8
-    ensures { λ r. ⌜ r ≡ i % 251 ⌝ }
-{
-    (i % 251) as u8
-}
-
-pub fn pattern() -> [u8; ROOM]
-    ensures { λ r. ⌜ (262144 ≡ length r) × ((i : ℕ) → i < 262144 → getD r i 0 ≡ i % 251) ⌝ }
-{
-    let mut out = no_output();
-    for i in 0..ROOM {
-        out[i] = mark(i);
-    }
-    out
-}
-
-// Whether the pattern stands from a place on.
-pub fn kept(out: &[u8], from: usize) -> bool
-    ensures { λ r. ⌜ (r ≡ true → (i : ℕ) → from ≤ i → i < length (now (out .entry)) → getD (now (out .entry)) i 0 ≡ i % 251) ⌝ }
-{
-    let mut i = from;
-    while i < out.len() {
-        if out[i] != mark(i) {
-            return false;
-        }
-        i += 1;
-    }
-    true
 }

@@ -8,6 +8,7 @@ use frame::Numbers;
 use group::Element;
 use jobs::Reply;
 use testing::input;
+use testing::output;
 use testing::print;
 use validity::Job;
 ghost use mathlib.Core.Path.{_≡_};
@@ -40,13 +41,13 @@ fn print_reply(reply: Reply, order: [u8; 8], out: &[u8]) {
             print::text(b" ");
             print::result(rounds, order, winner);
             print::text(b", rest ");
-            print::kept(buffers::kept(out, length));
+            print::kept(output::kept(out, length));
         }
         Reply::Refused { refusal, ranking } => {
             print::text(b" ");
             print::refused(refusal, ranking);
             print::text(b", output ");
-            print::kept(buffers::kept(out, 0));
+            print::kept(output::kept(out, 0));
         }
     }
 }
@@ -98,7 +99,8 @@ fn answer(
         return false;
     }
     let draws = buffers::draws_of(bytes);
-    let mut out = buffers::pattern();
+    let mut out = buffers::no_output();
+    output::fill(&mut out);
     print::text(name);
     write(
         job_of(numbers),

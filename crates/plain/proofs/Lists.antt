@@ -8,8 +8,8 @@ use native.Mathlib.Numerals.{add-one}
 use native.Mathlib.Omega.{arith}
 use borrow.Author.Tests.{eq-eqb, ne-eqb}
 use lib.Dec.{eqb}
-use lib.ListN.{length, getD, set, take, drop, replicate, length-append, length-take, length-drop, drop-of-length-le}
-use lib.Seq.{take-suc, drop-cons, set-at, append-snoc, getD-drop}
+use lib.ListN.{length, getD, take, drop, replicate, length-take, length-drop, drop-of-length-le}
+use lib.Seq.{take-suc, drop-cons, getD-drop}
 use Rattle.numbers.proofs.Tests.{by-cases}
 use Rattle.rules.specs.Bytes.{part}
 use Rattle.rules.specs.Count.{member}
@@ -48,13 +48,6 @@ module _ (gone s : List ℕ) (at i : ℕ) (h : at + i < length s) where
 
   pub standing-in : member (getD s (at + i) 0) gone ≡ false → remaining gone (part s at i) ++ (getD s (at + i) 0 ∷ []) ≡ remaining gone (part s at (i + 1))
   standing-in e = sym (step ∙ one-in gone (remaining gone (part s at i)) (getD s (at + i) 0) e)
-
-pub pad-more : (l : List ℕ) (n c : ℕ) → length l ≡ n → n < 8 → set (withZeros l) n c ≡ withZeros (l ++ (c ∷ []))
-unfolding withZeros
-pad-more l n c e h =
-    let m : length (l ++ (c ∷ [])) ≡ suc n = simp length-append (omega arith) in
-    let k : 8 - n ≡ suc (8 - suc n) = omega arith in
-    rw (m, e, k, append-snoc) (set-at l 0 (replicate (8 - suc n) 0) c n e)
 
 pub part-few : (gone s : List ℕ) (at i : ℕ) → length (remaining gone (part s at i)) ≤ i
 part-few gone s at i =

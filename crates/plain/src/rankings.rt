@@ -83,15 +83,3 @@ pub fn row_of(list: [u8; 8], size: usize, a: u8) -> usize
     }
     i
 }
-
-// The first of an order of going out.
-pub fn first_of(order: [u8; 8], outs: usize) -> Gone
-    requires { ⌜ outs ≤ 8 ⌝ }
-    ensures { λ r. ⌜ (r .outs ≡ outs) × Listed r × (listOf r ≡ take outs order) ⌝ }
-{
-    let mut first = [0u8; 8];
-    for i in 0..outs {
-        first[i] = order[i];
-    }
-    Gone { outs, order: first }
-}

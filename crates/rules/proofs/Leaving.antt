@@ -3,14 +3,14 @@ use Prim.Native.Nat.{ℕ, zero, suc, _+_, _-_, _≤_, _<_}
 use native.Mathlib.Nat.{eq-or-lt-of-le, le-of-suc-le-suc, not-suc-le-zero, le-refl}
 use native.Mathlib.Omega.{arith}
 use mathlib.Core.Path.{_≡_, refl}
-use mathlib.Core.Bool.{Bool, true, false, not, _||_, true≢false}
+use mathlib.Core.Bool.{Bool, true, false, not, _||_, true≢false, and-eq-true-iff}
 use mathlib.Core.List.{List, [], _∷_}
 use mathlib.Core.Logic.{_⊎_, inl, inr, ⊎-elim}
 use lib.Dec.{eqb}
 use lib.ListN.{length, length-append}
-use Rattle.rules.specs.Count.{member, Standing, behind, pick, leaves, closes, next, countsOf, countFrom}
+use Rattle.rules.specs.Count.{member, stillIn, Standing, behind, pick, leaves, closes, next, countsOf, countFrom}
 use Rattle.rules.proofs.Lists.{pigeonhole}
-use borrow.Author.Tests.{eqb-false}
+use borrow.Author.Tests.{eqb-false, leb-true, not-true}
 use Rattle.numbers.proofs.Tests.{by-cases, or-false-left}
 
 -- one of 1 .. i that is still in
@@ -18,6 +18,10 @@ pub record In (gone : List ℕ) (i c : ℕ) : Type 0 where
   pub low : 1 ≤ c
   pub high : c ≤ i
   pub still : member c gone ≡ false
+
+pub in-of : (n : ℕ) (gone : List ℕ) (c : ℕ) → stillIn n gone c ≡ true → In gone n c
+unfolding stillIn
+in-of n gone c h = let w = simp and-eq-true-iff at h in record { low = leb-true 1 c (w .0 .0); high = leb-true c n (w .0 .1); still = not-true _ (w .1) }
 
 -- all of 1 .. i have gone out
 abbrev AllOut : (gone : List ℕ) (i : ℕ) → Type 0

@@ -11,3 +11,6 @@ pub mod Positions
 pub mod Messages
 pub mod RefusalNumbers
 pub mod Digests
+pub mod Decimals
+pub mod Names
+pub mod Lines

@@ -5,8 +5,8 @@ use mathlib.Core.Bool.{Bool, true, false, cond, _||_, false≢true, or-assoc}
 use mathlib.Core.List.{List, [], _∷_, _++_, append-nil}
 use native.Mathlib.Omega.{arith}
 use lib.Dec.{eqb}
-use lib.ListN.{length, getD, length-append, List·getD-append}
-use lib.Seq.{getD-at}
+use lib.ListN.{length, getD, take, drop, length-append, List·getD-append}
+use lib.Seq.{getD-at, take-at, drop-at}
 use borrow.Author.Tests.{eq-eqb, ne-eqb, eqb-true, eqb-false}
 use Rattle.numbers.specs.Below.{sumBelow}
 use Rattle.numbers.proofs.Search.{extend}
@@ -29,8 +29,12 @@ two-of (a ∷ []) e = absurd (omega arith)
 two-of (a ∷ b ∷ []) e = refl
 two-of (a ∷ b ∷ c ∷ l) e = absurd (omega arith)
 
--- ---- tables
 module _ {ℓ} {A : Type ℓ} where
+  -- of two lists joined, where the first has a known length
+  pub split : (k : ℕ) (x x' y y' : List A) → length x ≡ k → length x' ≡ k → x ++ y ≡ x' ++ y' → (x ≡ x') × (y ≡ y')
+  split k x x' y y' e e' h = (sym (take-at x y k e) ∙ ap (take k) h ∙ take-at x' y' k e', sym (drop-at x y k e) ∙ ap (drop k) h ∙ drop-at x' y' k e')
+
+  -- ---- tables
   pub length-table : (n : ℕ) (f : ℕ → A) → length (table n f) ≡ n
   unfolding table
   length-table zero f = refl

@@ -3,12 +3,12 @@ use Prim.Native.Nat.{ℕ, _+_, _*_, _^_, _<_}
 use mathlib.Core.Path.{_≡_, refl, sym, ap, ap₂, subst, _∙_}
 use mathlib.Core.List.{List, [], _∷_, _++_}
 use native.Mathlib.Omega.{arith}
-use lib.ListN.{length, getD, take, drop, length-append}
-use lib.Seq.{take-at, drop-at}
+use lib.ListN.{length, getD, length-append}
 use Rattle.numbers.specs.Below.{concatBelow}
 use Rattle.numbers.proofs.Blocks.{blocks-same, length-blocks}
 use Rattle.rules.specs.Bytes.{number2, number4, bytes2, bytes4, Stands}
 use Rattle.rules.specs.Proofs.{Statement, Commitments, Context, contextBytes, statementBytes, message}
+use Rattle.rules.proofs.Lists.{split}
 use Rattle.rules.proofs.Places.{stands-whole, stands-left, stands-right, stands-moved, stands-block, half-stands, word-stands}
 
 pub message-same : (label : List ℕ) (c : Context) (branches statements : ℕ) (claim claim' : ℕ → ℕ → Statement) (t t' : ℕ → ℕ → Commitments) →
@@ -20,10 +20,6 @@ message-same label c branches statements claim claim' t t' same near =
     (blocks-same branches _ _ (λ l h. blocks-same statements _ _ (λ i k. ap₂ statementBytes (same l i h k) (near l i h k))))
 
 -- ---- what it tells
--- of two lists joined, where the first has a known length
-split : (k : ℕ) (x x' y y' : List ℕ) → length x ≡ k → length x' ≡ k → x ++ y ≡ x' ++ y' → (x ≡ x') × (y ≡ y')
-split k x x' y y' e e' h = (sym (take-at x y k e) ∙ ap (take k) h ∙ take-at x' y' k e', sym (drop-at x y k e) ∙ ap (drop k) h ∙ drop-at x' y' k e')
-
 half-told : (x y : ℕ) → x < 2 ^ 16 → y < 2 ^ 16 → bytes2 x ≡ bytes2 y → x ≡ y
 half-told x y l l' e =
     sym (half-stands (omega (arith, l)) (stands-whole (bytes2 x))) ∙ ap (λ (s : List ℕ). number2 s 0) e ∙ half-stands (omega (arith, l')) (stands-whole (bytes2 y))

@@ -26,8 +26,9 @@ positive R.Kind = lit< tt
 positive R.Opening = lit< tt
 positive R.NoneCounted = lit< tt
 positive R.Repeat = lit< tt
+positive R.Names = lit< tt
 
-pub number-most : (w : Refusal) → refusalNumber w ≤ 20
+pub number-most : (w : Refusal) → refusalNumber w ≤ 21
 number-most R.Length = lit≤ tt
 number-most R.Mark = lit≤ tt
 number-most R.Sizes = lit≤ tt
@@ -48,3 +49,4 @@ number-most R.Kind = lit≤ tt
 number-most R.Opening = lit≤ tt
 number-most R.NoneCounted = lit≤ tt
 number-most R.Repeat = lit≤ tt
+number-most R.Names = lit≤ tt

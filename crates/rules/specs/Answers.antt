@@ -4,6 +4,7 @@ use mathlib.Core.List.{List, _++_}
 use lib.ListN.{length, take, replicate}
 use Rattle.rules.specs.Check.{Verdict, accepted, refused}
 use Rattle.rules.specs.Receipts.{Finding, numbersFound, findRefused}
+use Rattle.rules.specs.Notice.{Telling, textTold, textRefused}
 use Rattle.rules.specs.declared.Refusal.{Refusal}
 use Rattle.rules.specs.declared.Refusal.the-variants as R
 use Rattle.rules.specs.declared.Answer.{Answer}
@@ -11,6 +12,8 @@ use Rattle.rules.specs.declared.Answer.the-variants as A
 use Rattle.rules.specs.declared.Checked.{Checked}
 use Rattle.rules.specs.declared.Found.{Found}
 use Rattle.rules.specs.declared.Found.the-variants as F
+use Rattle.rules.specs.declared.Told.{Told}
+use Rattle.rules.specs.declared.Told.the-variants as T
 
 abbrev pub refusalNumber : Refusal → ℕ
 refusalNumber R.Length = 1
@@ -33,6 +36,7 @@ refusalNumber R.Kind = 17
 refusalNumber R.Opening = 18
 refusalNumber R.NoneCounted = 19
 refusalNumber R.Repeat = 20
+refusalNumber R.Names = 21
 
 -- the checker's answer; of the array of 8 the first rounds - 1 are the order
 abbrev pub answerOf : Answer → (order : List ℕ) → Verdict
@@ -55,3 +59,8 @@ orderOf (refused refusal number) = replicate 8 0
 abbrev pub findingOf : Found → (numbers : List ℕ) → Finding
 findingOf F.Listed numbers = numbersFound numbers
 findingOf (F.Refused refusal number) numbers = findRefused (refusalNumber refusal) number
+
+-- the answer to names; the text stands at the front of the lent output
+abbrev pub tellingOf : Told → (out : List ℕ) → Telling
+tellingOf (T.Text long) out = textTold long (take long out)
+tellingOf (T.Refused refusal number) out = textRefused (refusalNumber refusal) number

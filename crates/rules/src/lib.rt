@@ -1,8 +1,8 @@
-// The answers of the checker and of the search for receipts, and the kinds of boards. The rules themselves are definitions, in specs/; specs/Answers.antt gives the number and the values of each case.
+// The answers of the checker, of the search for receipts and of the count in sentences, and the kinds of boards. The rules themselves are definitions, in specs/; specs/Answers.antt gives the number and the values of each case.
 ghost use mathlib.Core.Path.{_≡_};
 ghost use Rattle.rules.specs.Answers.{refusalNumber};
 
-// Why a board, a job or a list of digests is refused.
+// Why a board, a job, a list of digests or a list of names is refused.
 pub enum Refusal {
     // 1: bytes left are fewer than the record's length.
     Length,
@@ -44,6 +44,8 @@ pub enum Refusal {
     NoneCounted,
     // 20: two x of a matrix are equal.
     Repeat,
+    // 21: the names are not one of 1 to 20 letters a process, each with a line feed after it, all different.
+    Names,
 }
 
 // The number of a refusal in the table.
@@ -71,6 +73,7 @@ pub fn refusal_number(r: Refusal) -> usize
         Refusal::Opening => 18,
         Refusal::NoneCounted => 19,
         Refusal::Repeat => 20,
+        Refusal::Names => 21,
     }
 }
 
@@ -96,5 +99,11 @@ pub struct Checked {
 // The answer to digests: each one's ballot number is in the lent list; or why the list is as it was.
 pub enum Found {
     Listed,
+    Refused { refusal: Refusal, record: usize },
+}
+
+// The answer to names: the length of the text at the front of the lent output; or why the output is as it was.
+pub enum Told {
+    Text { length: usize },
     Refused { refusal: Refusal, record: usize },
 }

@@ -5,7 +5,7 @@ ghost use mathlib.Core.Path.{_≡_};
 ghost use Prim.Native.Nat.{ℕ, _<_};
 ghost use lib.ListN.{length, getD};
 ghost use Rattle.io.specs.Counts.{Counts};
-ghost use Rattle.testing.specs.Input.{pieceAt};
+ghost use Rattle.testing.specs.Input.{pieceAt, QuestionReads};
 
 // An input is shorter than this.
 pub const LIMIT: usize = 2097152;
@@ -52,4 +52,36 @@ pub fn piece_at(s: &[u8], at: usize) -> Piece
         return Piece::Missing;
     }
     Piece::Bytes(start, start + length)
+}
+
+// Where the pieces of a case end that asks something of a board: its name, the board, and what is asked. A number of 4 bytes follows.
+pub struct Ends {
+    pub name: usize,
+    pub board: usize,
+    pub asked: usize,
+}
+
+pub enum Question {
+    Asked(Ends),
+    // A piece is cut off, or the number is.
+    Missing,
+}
+
+// The case at a place.
+pub fn question_at(s: &[u8], at: usize) -> Question
+    ensures { λ r. ⌜ QuestionReads (now (s .entry)) at r ⌝ }
+{
+    let Piece::Bytes(_, name) = piece_at(s, at) else {
+        return Question::Missing;
+    };
+    let Piece::Bytes(_, board) = piece_at(s, name) else {
+        return Question::Missing;
+    };
+    let Piece::Bytes(_, asked) = piece_at(s, board) else {
+        return Question::Missing;
+    };
+    if s.len() - asked < 4 {
+        return Question::Missing;
+    }
+    Question::Asked(Ends { name, board, asked })
 }

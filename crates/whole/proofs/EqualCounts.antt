@@ -1,17 +1,17 @@
 -- The one that goes out and the winner are those of 02's sentences.
 use Prim.Native.Nat.{ℕ, zero, suc, _+_, _-_, _≤_, _<_}
 use mathlib.Core.Path.{_≡_, refl, sym, _∙_}
-use mathlib.Core.Bool.{Bool, true, false, not, true≢false, or-true, or-false, and-eq-true-iff}
+use mathlib.Core.Bool.{Bool, true, false, not, true≢false, or-true, or-false}
 use mathlib.Core.Logic.{_⊎_, inl, inr, ⊎-elim}
 use mathlib.Core.List.{List, [], _∷_, _++_}
 use native.Mathlib.Nat.{eq-or-lt-of-le, le-of-suc-le-suc, le-antisymm, le-refl}
 use native.Mathlib.Omega.{arith}
 use lib.Dec.{eqb, ltb}
 use lib.ListN.{length}
-use borrow.Author.Tests.{leb-true, le-leb, ltb-true, ltb-false, eqb-true, eqb-false, ne-eqb, not-true, not-false}
+use borrow.Author.Tests.{le-leb, ltb-true, ltb-false, eqb-true, eqb-false, ne-eqb, not-true, not-false}
 use Rattle.numbers.proofs.Tests.{by-cases}
 use Rattle.rules.specs.Count.{Standing, roundNumber, member, countOf, countIn, fewer, behind, stillIn, pick, leaves, wins}
-use Rattle.rules.proofs.Leaving.{In, pick-in, leaves-in}
+use Rattle.rules.proofs.Leaving.{In, in-of, pick-in, leaves-in}
 use Rattle.rules.proofs.Fewer.{decided-same, decided-false, fewer-agree, fewer-at, fewer-asym, fewer-not, fewer-trans, behind-is}
 use Rattle.whole.specs.EqualCounts.{EqualSince, LatestDiffers, AllAgree, StillIn, GoesOut, Wins, AllDifferent, EqualCounts}
 
@@ -19,10 +19,6 @@ compare {ℓ} : {P : Type ℓ} (a b : ℕ) → (a < b → P) → (a ≡ b → P)
 compare a b less same more =
     by-cases (ltb a b) (λ t. less (ltb-true a b t))
     (λ f. ⊎-elim (λ (q : b ≡ a). same (sym q)) (λ (l : b < a). more l) (eq-or-lt-of-le (ltb-false a b f)))
-
-in-of : (n : ℕ) (st : Standing) (c : ℕ) → StillIn n st c → In (st .gone) n c
-unfolding stillIn
-in-of n st c h = let w = simp and-eq-true-iff at h in record { low = leb-true 1 c (w .0 .0); high = leb-true c n (w .0 .1); still = not-true _ (w .1) }
 
 still-of : (n : ℕ) (st : Standing) (c : ℕ) → In (st .gone) n c → StillIn n st c
 unfolding stillIn
@@ -158,15 +154,15 @@ module _ (n : ℕ) (st : Standing) (counts : List ℕ) where
 
   -- who is picked, by any test, is still in where some process is
   picked-in : (better : ℕ → ℕ → Bool) (d : ℕ) → StillIn n st d → In (st .gone) n (pick (st .gone) better n)
-  picked-in better d h = elim (pick-in (st .gone) better n) [ inl z ↦ absurd (none-in (st .gone) n (z .1) d (in-of n st d h)) | inr o ↦ o ]
+  picked-in better d h = elim (pick-in (st .gone) better n) [ inl z ↦ absurd (none-in (st .gone) n (z .1) d (in-of n (st .gone) d h)) | inr o ↦ o ]
 
   goes-out : (d : ℕ) → StillIn n st d → GoesOut n st counts (leaves n st counts)
   goes-out d h =
       let c = leaves n st counts in
       let b = best (st .gone) (λ best c. not (behind st counts best c)) not-up not-down n in
-      let last : (e : ℕ) → StillIn n st e → c < e → behind st counts c e ≡ true = λ e i l. not-false _ (b .above e (in-of n st e i) l) in
+      let last : (e : ℕ) → StillIn n st e → c < e → behind st counts c e ≡ true = λ e i l. not-false _ (b .above e (in-of n (st .gone) e i) l) in
       let first : (e : ℕ) → StillIn n st e → behind st counts e c ≡ false =
-      λ e i. compare e c (λ l. not-true _ (b .below e (in-of n st e i) l)) (λ q. rw q (itself c)) (λ l. fewer-asym (S st counts) m c e (last e i l)) in
+      λ e i. compare e c (λ l. not-true _ (b .below e (in-of n (st .gone) e i) l)) (λ q. rw q (itself c)) (λ l. fewer-asym (S st counts) m c e (last e i l)) in
       record {
         still-in = still-of n st c (picked-in (λ best c. not (behind st counts best c)) d h);
         lowest = λ e i. no-more st counts c e (first e i);
@@ -178,9 +174,9 @@ module _ (n : ℕ) (st : Standing) (counts : List ℕ) where
   winner d h =
       let c = wins n st counts in
       let b = best (st .gone) (λ best c. behind st counts best c) (fewer-trans (S st counts) m) down n in
-      let last : (e : ℕ) → StillIn n st e → e < c → behind st counts e c ≡ true = λ e i l. b .below e (in-of n st e i) l in
+      let last : (e : ℕ) → StillIn n st e → e < c → behind st counts e c ≡ true = λ e i l. b .below e (in-of n (st .gone) e i) l in
       let first : (e : ℕ) → StillIn n st e → behind st counts c e ≡ false =
-      λ e i. compare e c (λ l. fewer-asym (S st counts) m e c (last e i l)) (λ q. rw q (itself c)) (λ l. b .above e (in-of n st e i) l) in
+      λ e i. compare e c (λ l. fewer-asym (S st counts) m e c (last e i l)) (λ q. rw q (itself c)) (λ l. b .above e (in-of n (st .gone) e i) l) in
       record {
         still-in = still-of n st c (picked-in (λ best c. behind st counts best c) d h);
         highest = λ e i. no-more st counts e c (first e i);

@@ -1,4 +1,4 @@
--- The proofs: the second demand, both halves of the third, audited ballots, the refusals, draws that repeat, the receipts, the messages and the starred cases.
+-- The proofs: the second demand, both halves of the third, audited ballots, the refusals, draws that repeat, the receipts, the sentences, the messages and the starred cases.
 pub mod Rules
 pub mod Verdicts
 pub mod Sound
@@ -12,5 +12,6 @@ pub mod Repeats
 pub mod EqualCounts
 pub mod Receipts
 pub mod Messages
+pub mod Sentences
 pub mod Lengths
 pub mod Worked

@@ -7,10 +7,10 @@ use mathlib.Core.Logic.{inl, inr}
 use mathlib.Core.Option.{Option, none, some}
 use native.Mathlib.Nat.{mul-le-mul-right}
 use native.Mathlib.Omega.{arith}
-use lib.Dec.{eqb}
+use lib.Dec.{leb, eqb}
 use lib.ListN.{length, length-append}
 use borrow.Author.Tests.{leb-true, eqb-true, eqb-false, eq-eqb, ne-eqb, not-true, not-false}
-use Rattle.rules.specs.Count.{countsOf, countFrom, plainCount, member, Standing, start, next, closes, isRanking}
+use Rattle.rules.specs.Count.{Result, countsOf, countFrom, plainCount, member, Standing, start, next, closes, isRanking}
 use Rattle.jobs.specs.Job.{Job, rankingOf}
 use Rattle.jobs.specs.Write.{rankingsGood, jobFault, firstBad, badRanking, jobRefused, writeOutcome}
 use Rattle.numbers.proofs.Search.{first-is}
@@ -19,9 +19,11 @@ use Rattle.rules.specs.Header.{ranked, sizes, Header, header, headerFault}
 use Rattle.rules.specs.Shift.{shiftFault}
 use Rattle.rules.specs.Sheet.{sheetFields, sheetFault}
 use Rattle.rules.specs.Records.{isCounted}
-use Rattle.rules.specs.Check.{Position, kind, counted, recordNumber, refused, recordFault, roundSheetFault, checkBoard}
+use Rattle.rules.specs.Check.{Verdict, Position, kind, counted, recordNumber, accepted, refused, recordFault, roundSheetFault, checkBoard}
 use Rattle.rules.specs.Receipts.{listFault, frameFault, findRefused, findInBallots, findOnBoard, findOutcome}
-use Rattle.whole.specs.Refusals.{BoardRefusal, JobRefusal, FindRefusal, Refusals}
+use Rattle.rules.specs.Sentences.{text}
+use Rattle.rules.specs.Notice.{nameOf, namesGood, boardResult, textTold, textRefused, textFault, tell, textOutcome}
+use Rattle.whole.specs.Refusals.{BoardRefusal, JobRefusal, FindRefusal, TextRefusal, Refusals}
 use Rattle.numbers.proofs.Tests.{by-cases, or-false-left, and-true, all-true}
 use Rattle.jobs.proofs.FineJob.{valid, no-refusal}
 use Rattle.rules.proofs.Faults.{fault-none, fault-is, Faulty, first-faulty}
@@ -260,6 +262,53 @@ module _ (hash : List ℕ → List ℕ) (s digests : List ℕ) (room : ℕ) wher
       go true true none el eh ev =
           let q = rw (el, findOutcome, eh, findOnBoard, ev, findInBallots) at e in let z : _≡_ {A = ℕ} 0 1 = cc in absurd (omega arith)
 
+-- ---- texts
+-- the tests of names and output name 21 and 15
+of-text : (n : ℕ) (lent words : List ℕ) (room : ℕ) → (textFault n lent words room ≡ 0 → ⊥) → member (textFault n lent words room) (21 ∷ 15 ∷ []) ≡ true
+unfolding textFault firstFault member
+of-text n lent words room ne =
+    by-cases (namesGood lent n)
+    (λ g. by-cases (leb (length words) room) (λ l. absurd (ne (rw (g, l)))) (λ l. rw (g, l)))
+    (λ g. rw g)
+
+of-tell : (n : ℕ) (lent : List ℕ) (r : Result) (room refusal number : ℕ) → tell n lent r room ≡ textRefused refusal number →
+    (member refusal (21 ∷ 15 ∷ []) ≡ true) × (number ≡ 0)
+unfolding tell
+of-tell n lent r room refusal number e =
+    let words = text n (nameOf lent) r in
+    by-cases (eqb (textFault n lent words room) 0)
+    (λ t.
+    let q : textTold (length words) words ≡ textRefused refusal number = rw t at e in
+    let z : _≡_ {A = ℕ} 0 1 = cc in
+    absurd (omega arith))
+    (λ t.
+    let q : textRefused (textFault n lent words room) 0 ≡ textRefused refusal number = rw t at e in
+    let a : textFault n lent words room ≡ refusal = cc in
+    let b : _≡_ {A = ℕ} 0 number = cc in
+    (rw (← a) (of-text n lent words room (eqb-false _ 0 t)), sym b))
+
+pub text-refusal : (hash : List ℕ → List ℕ) (s lent : List ℕ) (room refusal number : ℕ) → textOutcome hash s lent room ≡ textRefused refusal number → TextRefusal hash s refusal number
+unfolding textOutcome
+text-refusal hash s lent room refusal number e = go (checkBoard hash s) refl
+  where
+    go : (v : Verdict) → checkBoard hash s ≡ v → TextRefusal hash s refusal number
+    go (refused r k) ev =
+        let q : textRefused r k ≡ textRefused refusal number = rw (ev, textOutcome) at e in
+        let a : r ≡ refusal = cc in
+        let b : k ≡ number = cc in
+        record {
+          alike = λ r' k' h. let w : refused r k ≡ refused r' k' = sym ev ∙ h in (sym a ∙ cc, sym b ∙ cc);
+          others = λ rounds order winner h. let w : refused r k ≡ accepted rounds order winner = sym ev ∙ h in let z : _≡_ {A = ℕ} 0 1 = cc in absurd (omega arith);
+          most = rw (← b) (board-refusal hash s r k ev .most);
+        }
+    go (accepted rounds order winner) ev =
+        let w = of-tell (header s .n) lent (boardResult s rounds order winner) room refusal number (rw (ev, textOutcome) at e) in
+        record {
+          alike = λ r k h. let v : accepted rounds order winner ≡ refused r k = sym ev ∙ h in let z : _≡_ {A = ℕ} 0 1 = cc in absurd (omega arith);
+          others = λ _ _ _ _. w;
+          most = omega (arith, w .1);
+        }
+
 -- ---- the plain count
 module _ (n : ℕ) (rankings : List (List ℕ)) where
   abbrev Ends : (fuel extra : ℕ) → Standing → Type 0
@@ -295,6 +344,7 @@ refusals hash =
       records-read = λ s h m. number-next s h m ∙ records-in s h m;
       of-jobs = job-refusal hash;
       of-finds = find-refusal hash;
+      of-texts = text-refusal hash;
       none = λ job room. (valid hash job room, λ w. no-refusal hash job room (w .0) (w .1) (w .2));
       of-counts = count-limit;
     }

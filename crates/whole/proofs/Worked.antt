@@ -7,7 +7,7 @@ use native.Mathlib.Omega.{arith}
 use lib.Dec.{leb, ltb, eqb}
 use lib.ListN.{length, getD, replicate}
 use borrow.Author.Tests.{le-leb, lt-ltb, le-ltb, ne-eqb}
-use Rattle.numbers.specs.Below.{allBelow, sumBelow}
+use Rattle.numbers.specs.Below.{allBelow, sumBelow, concatBelow}
 use Rattle.numbers.specs.Primes.{isPrime}
 use Rattle.numbers.proofs.Tests.{and-true, all-true, any-holds, any-fails}
 use Rattle.compression.specs.Words.{ROTR, ¬w, Ch, Maj, Σ₀, Σ₁, σ₀, σ₁}
@@ -20,10 +20,13 @@ use Rattle.rules.specs.Group.{orders, paired, derived, generators}
 use Rattle.rules.specs.Proofs.{statementHolds}
 use Rattle.rules.specs.Count.{Standing, start, roundNumber, member, countOf, fewer, pick, majority, closes, isRanking, tableWhere, plainCount}
 use Rattle.rules.specs.Openings.{without}
+use Rattle.rules.specs.Receipts.{same}
+use Rattle.rules.specs.Sentences.{bytes, decimal, joined, line, text}
+use Rattle.rules.specs.Notice.{isLetter, lettersOf, nameFrom, namesGood}
 use Rattle.rules.specs.Records.{recordsOf}
 use Rattle.jobs.specs.Job.{Job, countedRankings as jobRankings, plainResult, recordDraws, needed, roundDraws, roundAt, boardLength}
 use Rattle.jobs.specs.Write.{drawsGood, different, noRepeat, Passed, Valid, badRanking, boardWritten, jobRefused, writeOutcome}
-use Rattle.whole.specs.Worked.{small, Pair, circle, twoOfTwo, inTurn, smallJob, auditedJob, Circle, Spot, Ties, Worked}
+use Rattle.whole.specs.Worked.{small, Pair, circle, twoOfTwo, inTurn, smallJob, auditedJob, Circle, Spot, Ties, Told, Worked}
 use Rattle.whole.proofs.Complete.{fixed, written, written-shown}
 use Rattle.whole.proofs.Refusals.{count-limit}
 use Rattle.whole.proofs.Repeats.{repeats}
@@ -167,6 +170,25 @@ tied =
       plain-wins = refl;
     }
 
+sentences : Told
+unfolding text line bytes decimal joined tableWhere member concatBelow plainCount namesGood nameFrom lettersOf isLetter same allBelow
+sentences =
+    record {
+      wins-line = refl;
+      leaves-line = refl;
+      circle-told = refl;
+      good = refl;
+      case-differs = refl;
+      equal = refl;
+      one-missing = refl;
+      one-more = refl;
+      no-feed = refl;
+      no-letters = refl;
+      no-letter = refl;
+      of-20 = refl;
+      of-21 = refl;
+    }
+
 pub worked : Worked
 unfolding statementHolds powMod closes fewer pick without plainCount
 worked =
@@ -193,4 +215,5 @@ worked =
       small-refused = small-refused;
       spot = spotted;
       ties = tied;
+      told = sentences;
     }

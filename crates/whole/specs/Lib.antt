@@ -1,5 +1,5 @@
--- What is claimed of whole boards: the second and the third demand, audited ballots, what the refusals name, draws that repeat, the receipts found, the
--- messages of challenges, and the starred cases.
+-- What is claimed of whole boards: the second and the third demand, audited ballots, what the refusals name, draws that repeat, the receipts found, what a
+-- text tells, the messages of challenges, and the starred cases.
 pub mod Rules
 pub mod SecondDemand
 pub mod ThirdDemand
@@ -8,6 +8,7 @@ pub mod Refusals
 pub mod Repeats
 pub mod EqualCounts
 pub mod Receipts
+pub mod Sentences
 pub mod Messages
 pub mod Lengths
 pub mod Worked

@@ -7,8 +7,9 @@ use mathlib.Core.List.{List, [], _∷_}
 use lib.ListN.{length}
 use Rattle.rules.specs.Count.{member, isRanking, start, countFrom, plainCount}
 use Rattle.rules.specs.Header.{Header, header}
-use Rattle.rules.specs.Check.{place, recordNumber, counted, refused, checkBoard}
+use Rattle.rules.specs.Check.{place, recordNumber, counted, accepted, refused, checkBoard}
 use Rattle.rules.specs.Receipts.{findRefused, findOutcome}
+use Rattle.rules.specs.Notice.{textRefused, textOutcome}
 use Rattle.jobs.specs.Job.{Job, rankingOf, boardLength}
 use Rattle.jobs.specs.Write.{noRepeat, jobFault, jobRefused, writeOutcome, Valid}
 
@@ -43,12 +44,19 @@ pub record FindRefusal (s : List ℕ) (refusal number : ℕ) : Type 0 where
   pub within : number ≤ header s .K
   pub most : number ≤ 1000
 
+-- of a text: "A board that the checker refuses is refused alike, first."; 21 and 15 concern no record and name 0
+pub record TextRefusal (hash : List ℕ → List ℕ) (s : List ℕ) (refusal number : ℕ) : Type 0 where
+  pub alike : (r k : ℕ) → checkBoard hash s ≡ refused r k → (refusal ≡ r) × (number ≡ k)
+  pub others : (rounds : ℕ) (order : List ℕ) (winner : ℕ) → checkBoard hash s ≡ accepted rounds order winner → (member refusal (21 ∷ 15 ∷ []) ≡ true) × (number ≡ 0)
+  pub most : number ≤ 7008
+
 pub record Refusals (hash : List ℕ → List ℕ) : Type 0 where
   pub of-boards : (s : List ℕ) (refusal number : ℕ) → checkBoard hash s ≡ refused refusal number → BoardRefusal s refusal number
   -- the records of m + 1 rounds: the header, K ballots and a sheet, and in each further round a shift of each counted ballot and a sheet
   pub records-read : (s : List ℕ) (h : Header) (m : ℕ) → recordNumber s h (suc m) 0 ≡ 1 + (h .K + 1) + m * (counted s h + 1)
   pub of-jobs : (job : Job) (room number ranking : ℕ) → writeOutcome hash job room ≡ jobRefused number ranking → JobRefusal job number ranking
   pub of-finds : (s digests : List ℕ) (room refusal number : ℕ) → findOutcome hash s digests room ≡ findRefused refusal number → FindRefusal s refusal number
+  pub of-texts : (s lent : List ℕ) (room refusal number : ℕ) → textOutcome hash s lent room ≡ textRefused refusal number → TextRefusal hash s refusal number
   -- a job is written just where it is valid, no matrix repeats an x and its board fits
   pub none : (job : Job) (room : ℕ) → (jobFault hash job room ≡ 0) ↔ (Valid hash job × (noRepeat job ≡ true) × (boardLength job ≤ room))
   -- the plain count of 2 or more processes ends by itself: more fuel changes nothing

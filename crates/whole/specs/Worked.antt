@@ -1,4 +1,5 @@
--- The starred cases of "Tried by hand", each said of the definitions, in one table, with p = 23, q = 11, g0 = 2 and g1 = 3; and equal counts (02).
+-- The starred cases of "Tried by hand", each said of the definitions, in one table, with p = 23, q = 11, g0 = 2 and g1 = 3; and equal counts and
+-- sentences (02).
 use Prim.Native.Nat.{ℕ, suc, _+_, _-_, _%_, _≤_, _<_}
 use mathlib.Core.Path.{_≡_}
 use mathlib.Core.Bool.{true, false}
@@ -12,6 +13,8 @@ use Rattle.rules.specs.Proofs.{statementHolds}
 use Rattle.rules.specs.Count.{table, Standing, roundNumber, start, member, countOf, leaves, wins, closes, plainCount}
 use Rattle.rules.specs.Check.{accepted, checkBoard}
 use Rattle.rules.specs.Openings.{Opening, without}
+use Rattle.rules.specs.Sentences.{bytes, line, text}
+use Rattle.rules.specs.Notice.{nameOf, namesGood}
 use Rattle.jobs.specs.Job.{Job, needed}
 use Rattle.jobs.specs.Board.{board}
 use Rattle.jobs.specs.Write.{noRepeat, Valid, boardWritten, jobRefused, writeOutcome}
@@ -122,6 +125,32 @@ pub record Ties : Type 0 where
   pub plain-wins : plainCount 4 tenRankings ≡
       record { rounds = 3; counts = (3 ∷ 3 ∷ 2 ∷ 2 ∷ []) ∷ (3 ∷ 3 ∷ 4 ∷ 0 ∷ []) ∷ (5 ∷ 0 ∷ 5 ∷ 0 ∷ []) ∷ []; order = 4 ∷ 2 ∷ []; winner = 3 }
 
+-- names, as they are lent
+abbrev pub threeNames : List ℕ
+threeNames = bytes "Skyr\nQuark\nFeta\n"
+
+-- sentences (02, L7)
+pub record Told : Type 0 where
+  -- "as "Round 2: Skyr counts 5, Quark counts 4; Skyr wins."", where the third of three went out in round 1; "or "Quark leaves.""
+  pub wins-line : line 3 (nameOf threeNames) (record { rounds = 2; counts = (4 ∷ 3 ∷ 2 ∷ []) ∷ (5 ∷ 4 ∷ 0 ∷ []) ∷ []; order = 3 ∷ []; winner = 1 }) 1
+      ≡ bytes "Round 2: Skyr counts 5, Quark counts 4; Skyr wins.\n"
+  pub leaves-line : line 3 (nameOf threeNames) (record { rounds = 2; counts = (10 ∷ 9 ∷ 100 ∷ []) ∷ (19 ∷ 0 ∷ 100 ∷ []) ∷ []; order = 2 ∷ []; winner = 3 }) 0
+      ≡ bytes "Round 1: Skyr counts 10, Quark counts 9, Feta counts 100; Quark leaves.\n"
+  -- the count of (1,2,3), (2,3,1), (3,1,2)
+  pub circle-told : text 3 (nameOf threeNames) (plainCount 3 ((1 ∷ 2 ∷ 3 ∷ []) ∷ (2 ∷ 3 ∷ 1 ∷ []) ∷ (3 ∷ 1 ∷ 2 ∷ []) ∷ []))
+      ≡ bytes "Round 1: Skyr counts 1, Quark counts 1, Feta counts 1; Feta leaves.\nRound 2: Skyr counts 2, Quark counts 1; Skyr wins.\n"
+  -- "Names are 1 to 20 letters A to Z and a to z, one per process, all different, each lent with a line feed after it."
+  pub good : namesGood threeNames 3 ≡ true
+  pub case-differs : namesGood (bytes "Skyr\nskyr\n") 2 ≡ true
+  pub equal : namesGood (bytes "Skyr\nSkyr\n") 2 ≡ false
+  pub one-missing : namesGood (bytes "Skyr\n") 2 ≡ false
+  pub one-more : namesGood threeNames 2 ≡ false
+  pub no-feed : namesGood (bytes "Skyr\nQuark") 2 ≡ false
+  pub no-letters : namesGood (bytes "\nQuark\n") 2 ≡ false
+  pub no-letter : namesGood (bytes "Skyr 2\nQuark\n") 2 ≡ false
+  pub of-20 : namesGood (bytes "abcdefghijklmnopqrst\nQuark\n") 2 ≡ true
+  pub of-21 : namesGood (bytes "abcdefghijklmnopqrstu\nQuark\n") 2 ≡ false
+
 pub record Worked : Type 0 where
   -- "x = 5, v = 1 gives (4, 13)", "x = 5, v = 0 gives (9, 13)", "x = 7, v = 1 gives (16, 2)"
   pub five-one : Pair 5 1 4 13
@@ -158,3 +187,5 @@ pub record Worked : Type 0 where
   pub spot : Spot
   -- equal counts
   pub ties : Ties
+  -- sentences
+  pub told : Told

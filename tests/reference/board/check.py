@@ -1,6 +1,6 @@
 """check.py - the checker: a board read record by record.  Words in quotation marks are 01's, on the
 header's mark and on a ballot's kind 02's."""
-from .count import after_out, closes, first_standing, lowest_due, winner_due
+from .count import after_close, after_out, closes, first_standing, lowest_due, winner_due
 from .group import (Group, g0_holds, g1_holds, group_holds, make_g1, pair_of, product_of,
                     sizes_hold)
 from .proofs import (Context, column_place, entry_claim, entry_place, line_claim, proof_holds,
@@ -145,7 +145,7 @@ def read_shift(reading, group, n, m, k, previous, a):
 
 def read_sheet(reading, group, standing, matrices):
     """"RT | round 1, out 1, then per process count 2, s 4".  matrices: of the counted ballots.
-    Returns (next standing, None) or (standing, winner)."""
+    Returns (next standing, None) or (last standing, winner)."""
     n, C = standing.n, standing.C
     reading.open(b'RT', rt_length(n))
     if reading.number(1) != standing.m:
@@ -170,7 +170,7 @@ def read_sheet(reading, group, standing, matrices):
         if out != 0:
             reading.refuse(11)
         reading.close()
-        return standing, winner_due(standing, counts)
+        return after_close(standing, counts), winner_due(standing, counts)
     if out != lowest_due(standing, counts):
         reading.refuse(11)
     reading.close()
@@ -179,12 +179,14 @@ def read_sheet(reading, group, standing, matrices):
 
 def check(board):
     try:
-        return check_or_raise(bytes(board))
+        standing, winner = read_board(bytes(board))
     except Refused as refused:
         return ('refused', refused.number, refused.record)
+    return ('accepted', standing.m, list(standing.outs), winner)
 
 
-def check_or_raise(board):
+def read_board(board):
+    """The last standing count and the winner of an accepted board; raises Refused of any other."""
     reading = Reading(board)
     n, K, group = read_header(reading)
     matrices = {}                       # of the counted ballots, by number
@@ -206,4 +208,4 @@ def check_or_raise(board):
     # "after the closing sheet: bytes remain | 12"; "(with 12, the number of records read)"
     if reading.left() > 0:
         reading.refuse(12)
-    return ('accepted', standing.m, list(standing.outs), winner)
+    return standing, winner

@@ -6,7 +6,7 @@ from collections import namedtuple
 
 Standing = namedtuple('Standing', 'n C m still_in outs sheets')
 # C: how many ballots are counted; m: round of the sheet to come; still_in, outs: tuples of process
-# numbers; sheets: the counts of rounds 1 to m-1
+# numbers; sheets: the counts of rounds 1 to m-1, once the board is closed of round m too
 
 
 def first_standing(n, C):
@@ -56,3 +56,8 @@ def after_out(standing, counts, a):
                              still_in=tuple(i for i in standing.still_in if i != a),
                              outs=standing.outs + (a,),
                              sheets=standing.sheets + (tuple(counts),))
+
+
+def after_close(standing, counts):
+    """With the counts of the closing sheet: nothing else changes."""
+    return standing._replace(sheets=(*standing.sheets, tuple(counts)))

@@ -18,8 +18,6 @@ use denote.Enum.Laws as EL
 use denote.Struct.Laws as LL
 use denote.Triple.Spec.{tripleOf}
 use denote.Triple.Table.{cited}
-use Rattle.rules.proofs.Checked as Checked
-use Rattle.rules.proofs.Checked.Laws as Checked′
 use Rattle.rules.proofs.Model as Model
 use Rattle.rules.proofs.Model.Laws as Model′
 use Rattle.header.specs.Heads.{HeaderReads}
@@ -40,6 +38,8 @@ use Rattle.checker.proofs.reading.verdict_of as judge
 use Rattle.checker.proofs.reading.verdict_of.Symbol as judge-def
 use Rattle.checker.proofs.reading.verdict_of.Met as judge-thm
 use Rattle.checker.proofs.Frame.{into, begins, leaves, copied, copies}
+use Rattle.checker.proofs.Counted as Counted
+use Rattle.checker.proofs.Counted.Laws as Counted′
 use Rattle.checker.proofs.Held.{struct-laid, enum-laid, reading-laid, reading-typed, board-laid, usize-laid, ends, told, told-reading, again, walks}
 use Rattle.checker.proofs.check_model.Key as key
 use Rattle.checker.proofs.check_model as check-model
@@ -69,7 +69,7 @@ check-model-spec 𝓤 H 𝓜 𝓖 𝓡 =
     assigns ! (of-opd ! (copied ! 2 _ 3 refl refl)) (from ! (stop !)) (into ! 2 _ 7 refl refl t₀) $
     told-reading 𝓤 H A W _ _ ! fm (moved.spec 𝓤 H A mem run) (cited 𝓤 H (tripleOf 𝓤 H A moved.signature (moved.spec 𝓤 H A mem run)) 𝓜 𝓡 code.env moved-def.name moved-def.routine code.calls-checker·reading·moved (moved-thm.met 𝓤 H 𝓜 𝓖 𝓡)) κs qs (reading-laid κs, (usize-laid, tt)) (r₀, (54, tt)) tt (uint-makes 𝓤 H A W w64, tt) ((refl, lit< tt), tt) (id⊢ 𝓤 _) r₁ (λ _. refl)
     (and-then ! (copied ! 1 _ 7 refl refl) (and-then ! (lit ! tt) (no-more !))) (λ is₁. land ! (from ! (stop !)) (into ! 2 _ 6 refl refl (reading-typed 𝓤 H A W κs r₁ is₁)) $
-    told 𝓤 H A W _ _ _ ! fm (judge.spec 𝓤 H A mem run) (cited 𝓤 H (tripleOf 𝓤 H A judge.signature (judge.spec 𝓤 H A mem run)) 𝓜 𝓡 code.env judge-def.name judge-def.routine code.calls-checker·reading·verdict-of (judge-thm.met 𝓤 H 𝓜 𝓖 𝓡)) κs qs (reading-laid κs, (struct-laid Model.the-type Model′.the-laws, (enum-laid HeaderRead.the-type HeaderRead′.the-laws tt, tt))) (struct-laid Checked.the-type Checked′.the-laws)
+    told 𝓤 H A W _ _ _ ! fm (judge.spec 𝓤 H A mem run) (cited 𝓤 H (tripleOf 𝓤 H A judge.signature (judge.spec 𝓤 H A mem run)) 𝓜 𝓡 code.env judge-def.name judge-def.routine code.calls-checker·reading·verdict-of (judge-thm.met 𝓤 H 𝓜 𝓖 𝓡)) κs qs (reading-laid κs, (struct-laid Model.the-type Model′.the-laws, (enum-laid HeaderRead.the-type HeaderRead′.the-laws tt, tt))) (struct-laid Counted.the-type Counted′.the-laws)
     (r₁, (a .1 .0, (o, tt))) tt (LL.makes Model.the-type Model′.the-plain 𝓤 H A, (EL.makes HeaderRead.the-type HeaderRead′.the-plain 𝓤 H A, tt)) (are .1 .0, (is-o, tt)) (factI 𝓤 _ (emp 𝓤) (narrow, read, refl)) _ (λ _. refl)
-    (copies ! 1 _ (6 ∷ 2 ∷ 4 ∷ []) _ refl (refl, (refl, (refl, tt)))) (λ v e is. land ! (from ! (stop !)) (into ! 2 _ 0 refl refl (LL.lawful Checked.the-type Checked′.the-laws 𝓤 H A W .typed v _ is .0)) $ move ! (2 ∷ []) $ leaves ! _ refl $
+    (copies ! 1 _ (6 ∷ 2 ∷ 4 ∷ []) _ refl (refl, (refl, (refl, tt)))) (λ v e is. land ! (from ! (stop !)) (into ! 2 _ 0 refl refl (LL.lawful Counted.the-type Counted′.the-laws 𝓤 H A W .typed v _ is .0)) $ move ! (2 ∷ []) $ leaves ! _ refl $
     ends 𝓤 H A W ! check-model.signature (check-model.spec 𝓤 H A mem run) κs qs a g _ v ((tt, (tt, tt)), (tt, (tt, tt)), (tt, (tt, tt))) _ refl e)))))))

@@ -5,9 +5,8 @@ use native.Mathlib.Nat.{sub-zero}
 use native.Mathlib.Omega.{arith}
 use borrow.Author.Needs.{needs}
 use Rattle.sha256.specs.Message.{sha256}
-use Rattle.rules.specs.Count.{start}
-use Rattle.rules.specs.Check.{Verdict, accepted, checkFrom, roundVerdict}
-use Rattle.rules.specs.Answers.{orderOf, withZeros}
+use Rattle.rules.specs.Count.{table, start}
+use Rattle.rules.specs.Check.{Verdict, accepted, counts, checkFrom, roundVerdict}
 use Rattle.count.specs.State.{standingOf, Kept}
 use Rattle.count.specs.declared.Gone.{Gone}
 use Rattle.count.proofs.Picks.{sheets-many, same-gone}
@@ -17,7 +16,7 @@ use Rattle.round.specs.declared.RoundOutcome.the-variants.{Open, Closed}
 use Rattle.round.specs.Rounds.{Begins}
 use Rattle.round.specs.Outcomes.{RoundComes}
 use Rattle.round.proofs.Beginnings.{begins-first, begins-next}
-use Rattle.checker.proofs.Onward.{one-leaves, ends, goes-on}
+use Rattle.checker.proofs.Onward.{one-leaves, sheets-more, verdict-of, ends-with, ends, goes-on}
 use Rattle.checker.proofs.rounds.Statement.{statement}
 use Rattle.checker.proofs.rounds.Tie as tie
 
@@ -25,6 +24,7 @@ abbrev Inv-loop : tie.InvT-loop
 Inv-loop board at head n count₀ place₀ round₀ count place round =
     Begins board head place round × (count .gone .outs ≡ round .m) × Kept count
     × (checkFrom sha256 board (headOf board head) n start 0 0 ≡ checkFrom sha256 board (headOf board head) (n - round .m) (standingOf n count) (round .m) (round .a))
+    × (standingOf n count .sheets ≡ table (round .m) (counts board (headOf board head)))
 
 abbrev μ-loop : tie.MeasureT-loop
 μ-loop board at head n count₀ place₀ round₀ count place round = n - round .m
@@ -54,6 +54,7 @@ ended c W =
     ends (now (a .board)) H (checkFrom sha256 (now (a .board)) H (a .h .n) start 0 0) (standingOf (a .h .n) (l .count)) (l .round .m) (l .round .a) (omega (arith, l .inv .0 .early)) (l .inv .3) W
 
 loop-holds : tie.Need-loop-holds Inv-loop μ-loop
+unfolding table
 loop-holds c =
     let s = c .before .before .before in
     rw (c .first .ensures, s .pre .1) (
@@ -61,15 +62,16 @@ loop-holds c =
       c .before .new .ensures .0,
       c .before .new .ensures .1,
       rw (sub-zero, c .before .new .ensures .2 (s .args .h .n)),
+      rw (c .before .new .ensures .2 (s .args .h .n)),
     )
 
 returns : tie.Need-returns Inv-loop μ-loop
 unfolding RoundComes
 returns c =
-    let r = c .before .before .before .before in
-    let t = rw (c .before .before .outcome .given .1) at (r .read-round .ensures) in
+    let r = c .before .before .before .before .before in
+    let t = rw (c .before .before .before .outcome .given .1) at (r .read-round .ensures) in
     let x = ended r _ (t .0) in
-    (c .refused .ensures .0 ∙ sym x, c .refused .ensures .1 ∙ sym (ap orderOf x))
+    record { verdict = rw (c .refused .ensures) (sym x); counted = rw x tt }
 
 -- the round closes the board
 closes : (c : tie.After-known-told2 Inv-loop μ-loop) → Comes (c .before .before .before) (Closed (c .before .outcome2 .given .0 .0))
@@ -88,10 +90,16 @@ returns-2 c =
     let l = r .before .loop in
     let t = closes o in
     let x = ended r _ (t .0) in
-    let g = same-gone (a .h .n) _ (l .count) (t .1) in (
-      c .accepted .ensures .0 ∙ (λ i. accepted ((ap (λ (y : Gone). y .outs) (t .1) ∙ l .inv .1) i + 1) (g i) (o .before .outcome2 .given .0 .0)) ∙ sym x,
-      c .accepted .ensures .1 ∙ ap withZeros g ∙ sym (ap orderOf x),
-    )
+    let g = same-gone (a .h .n) _ (l .count) (t .1) in
+    let w = c .accepted .ensures in
+    record {
+      verdict = rw (w .0, w .2)
+          (verdict-of (a .h .n) (r .read-round .result .count) (o .before .outcome2 .given .0 .0) ∙ (λ i. accepted ((ap (λ (y : Gone). y .outs) (t .1) ∙ l .inv .1) i + 1) (g i) (o .before .outcome2 .given .0 .0)) ∙ sym x);
+      counted = rw (x, w .1, w .2)
+          (ends-with (now (a .board)) (headOf (now (a .board)) (a .h)) (l .round .m) (o .before .outcome2 .given .0 .0) (l .count) (r .read-round .result .count) ((entry r) .pre .0 .high)
+          (omega (arith, ap (λ (y : Gone). y .outs) (t .1), l .inv .1, l .inv .0 .early)) (t .2)
+          (sheets-many (a .h .n) (l .count) (l .inv .2) ∙ l .inv .1) (l .inv .4) (t .3));
+    }
 
 -- the round stays open
 opens : (c : tie.After-known-told3 Inv-loop μ-loop) → Comes (c .before .before .before) (Open (c .before .outcome3 .given .0 .0) (c .before .outcome3 .given .0 .1 .0) (c .before .outcome3 .given .0 .1 .1 .0))
@@ -114,6 +122,7 @@ loop-again c =
       o .8,
       goes-on (now (a .board)) H (checkFrom sha256 (now (a .board)) H (a .h .n) start 0 0) (standingOf (a .h .n) (l .count)) (l .round .m)
           (l .round .a) (omega (arith, l .inv .0 .early)) (l .inv .3) (o .0) _ _ (o .9) (o .5),
+      sheets-more (now (a .board)) H (l .round .m) (standingOf (a .h .n) (l .count)) _ (l .inv .4) (o .9),
     )
 
 pub rounds-spec : {M : Type 1} → statement M

@@ -1,10 +1,8 @@
 use denote.Ref.{now}
-use mathlib.Core.Path.{_∙_, ap}
 use borrow.Author.Needs.{needs}
-use Rattle.rules.specs.Answers.{orderOf}
 use Rattle.header.specs.declared.HeaderRead.the-variants.{Board}
 use Rattle.header.specs.Heads.{HeaderReads}
-use Rattle.checker.proofs.Onward.{known-ranked, board-is, refused-is}
+use Rattle.checker.proofs.Onward.{known-ranked, counted-is, refused-is}
 use Rattle.checker.proofs.verdict.Statement.{statement}
 use Rattle.checker.proofs.verdict.Tie as tie
 
@@ -18,18 +16,15 @@ rounds-requires c κs =
     (known-ranked (s .args .model) (now (s .args .board)) _ (s .pre .0) (told c .2), s .pre .2)
 
 returns : tie.Need-returns
-returns c =
-    let a = c .before .before .before .before .before .args in
-    let e = board-is (a .model) (now (a .board)) _ (told (c .before)) in
-    (c .rounds .ensures .0 ∙ e, c .rounds .ensures .1 ∙ ap orderOf e)
+returns c = let a = c .before .before .before .before .before .args in counted-is (a .model) (now (a .board)) _ _ (told (c .before)) (c .rounds .ensures)
 
 returns-2 : tie.Need-returns-2
 returns-2 c =
-    let s = c .before .before .before .before .before in
-    let e = refused-is (s .args .model) (now (s .args .board)) _ (rw (c .before .before .read2 .given .1) at (s .pre .1)) in
-    (c .refused .ensures .0 ∙ e, c .refused .ensures .1 ∙ ap orderOf e)
+    let s = c .before .before .before .before .before .before in
+    let e = refused-is (s .args .model) (now (s .args .board)) _ (rw (c .before .before .before .read2 .given .1) at (s .pre .1)) in
+    record { verdict = rw (c .refused .ensures) e; counted = rw (← e) tt }
 
 pub verdict-spec : {M : Type 1} → statement M
 verdict-spec =
     tie.close
-    (tie.spec (λ c. search needs) rounds-requires (λ c. search needs) (λ c κs. search needs) returns returns-2)
+    (tie.spec (λ c. search needs) rounds-requires (λ c. search needs) (λ c κs. search needs) (λ c κs. search needs) returns returns-2)

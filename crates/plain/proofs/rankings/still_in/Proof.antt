@@ -10,7 +10,8 @@ use Rattle.rules.specs.Count.{member}
 use Rattle.jobs.specs.Job.{remaining}
 use Rattle.rules.specs.Answers.{withZeros}
 use Rattle.count.specs.State.{listOf}
-use Rattle.plain.proofs.Lists.{standing-out, standing-in, pad-more, part-few}
+use Rattle.plain.proofs.Lists.{standing-out, standing-in, part-few}
+use Rattle.count.proofs.Firsts.{pad-more}
 use borrow.Author.Needs.{needs}
 use Rattle.plain.proofs.rankings.still_in.Statement.{statement}
 use Rattle.plain.proofs.rankings.still_in.Tie as tie

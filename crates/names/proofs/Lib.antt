@@ -1,0 +1,3 @@
+-- Laws that the proofs of `names` cite.
+pub mod Starting
+pub mod Comparing

@@ -1,0 +1,2 @@
+-- What is known of names that are lent.
+pub mod Lent

@@ -1,0 +1,3 @@
+-- Laws that the proofs of `notice` cite.
+pub mod Telling
+pub mod Boards
