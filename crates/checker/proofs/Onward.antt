@@ -37,6 +37,14 @@ pub sheets-more : (s : List ℕ) (H : Header) (m : ℕ) (st st' : Standing) → 
 unfolding table
 sheets-more s H m st st' t e = ap (λ (x : Standing). x .sheets) e ∙ rw (t, add-one m)
 
+pub sheets-so-far : (s : List ℕ) (H : Header) (c : Count) (m : ℕ) → c .gone .outs ≡ m → standingOf (H .n) c .sheets ≡ table m (counts s H) →
+    standingOf (H .n) c .sheets ≡ table (c .gone .outs) (counts s H)
+sheets-so-far s H c m o t = t ∙ ap (λ (k : ℕ). table k (counts s H)) (sym o)
+
+pub no-sheet-yet : (s : List ℕ) (H : Header) (c : Count) → c .gone .outs ≡ 0 → standingOf (H .n) c ≡ start → standingOf (H .n) c .sheets ≡ table (c .gone .outs) (counts s H)
+unfolding table
+no-sheet-yet s H c o e = sheets-so-far s H c 0 o (ap (λ (x : Standing). x .sheets) e)
+
 pub verdict-of : (n : ℕ) (c : Count) (winner : ℕ) → answerOf (A.Accepted (c .gone .outs + 1) winner) (c .gone .order) ≡ accepted (c .gone .outs + 1) (standingOf n c .gone) winner
 verdict-of n c winner =
     let e : c .gone .outs + 1 - 1 ≡ c .gone .outs = omega arith in

@@ -39,7 +39,7 @@ pub struct Counted {
 }
 
 fn refused(why: Refusal, number: usize, count: Count) -> Counted
-    ensures { λ r. ⌜ r .answer ≡ Answer.Refused why number ⌝ }
+    ensures { λ r. ⌜ (r .answer ≡ Answer.Refused why number) × (r .n ≡ 0) × (r .count ≡ count) ⌝ }
 {
     Counted {
         answer: Answer::Refused {

@@ -1,6 +1,6 @@
 use denote.Ref.{now}
 use Prim.Native.Nat.{ℕ, _+_, _-_}
-use mathlib.Core.Path.{_≡_, sym, _∙_, ap}
+use mathlib.Core.Path.{_≡_, refl, sym, _∙_, ap}
 use native.Mathlib.Nat.{sub-zero}
 use native.Mathlib.Omega.{arith}
 use borrow.Author.Needs.{needs}
@@ -16,7 +16,7 @@ use Rattle.round.specs.declared.RoundOutcome.the-variants.{Open, Closed}
 use Rattle.round.specs.Rounds.{Begins}
 use Rattle.round.specs.Outcomes.{RoundComes}
 use Rattle.round.proofs.Beginnings.{begins-first, begins-next}
-use Rattle.checker.proofs.Onward.{one-leaves, sheets-more, verdict-of, ends-with, ends, goes-on}
+use Rattle.checker.proofs.Onward.{one-leaves, sheets-more, sheets-so-far, verdict-of, ends-with, ends, goes-on}
 use Rattle.checker.proofs.rounds.Statement.{statement}
 use Rattle.checker.proofs.rounds.Tie as tie
 
@@ -71,7 +71,9 @@ returns c =
     let r = c .before .before .before .before .before in
     let t = rw (c .before .before .before .outcome .given .1) at (r .read-round .ensures) in
     let x = ended r _ (t .0) in
-    record { verdict = rw (c .refused .ensures) (sym x); counted = rw x tt }
+    let l = r .before .loop in
+    let e = c .refused .ensures in
+    record { verdict = rw (e .0) (sym x); counted = rw (x, e .1, e .2, t .1) (refl, l .inv .2, sheets-so-far _ _ (l .count) (l .round .m) (l .inv .1) (l .inv .4)) }
 
 -- the round closes the board
 closes : (c : tie.After-known-told2 Inv-loop μ-loop) → Comes (c .before .before .before) (Closed (c .before .outcome2 .given .0 .0))
