@@ -10,15 +10,25 @@
  *
  * With no board it takes the one on standard input. A board that cannot be read gets a line on
  * standard error and no answer, and the next one follows; if the digests or names cannot be read, none
- * gets an answer. Ends with 0 if all boards are accepted, walked or told, 1 if one is refused, 2 if a
- * file cannot be read. */
+ * gets an answer. Where standard output is closed, or does not take an answer, a line on standard error
+ * says why, and no other answer follows. Ends with 0 if all boards are accepted, walked or told, 1 if
+ * one is refused, 2 if a file cannot be read or an answer cannot be printed; a pipe that nobody reads
+ * any more ends it by SIGPIPE. */
+
+/* For fcntl, which is POSIX's and not C's: under -std=c11 a header need not declare it unasked. */
+#define _POSIX_C_SOURCE 200809L
+
+#include <errno.h>
+#include <fcntl.h>
 #include <stdio.h>
 #include <stdlib.h>
 #include <string.h>
+#include <unistd.h>
 
 #include "gooseoften.h"
 
-enum { ANSWERED = 0, REFUSED = 1, UNREAD = 2, DIGEST = 32, DIGESTS_MOST = 500 };
+/* Failed: not read, or not printed. */
+enum { ANSWERED = 0, REFUSED = 1, FAILED = 2, DIGEST = 32, DIGESTS_MOST = 500 };
 
 struct bytes {
     uint8_t *start;
@@ -63,6 +73,22 @@ static struct bytes read_named(const char *name)
         fprintf(stderr, "boardhost: cannot read %s\n", name == NULL ? "standard input" : name);
     }
     return all;
+}
+
+static int cannot_print(const char *reason)
+{
+    fprintf(stderr, "boardhost: cannot print: %s\n", reason);
+    return FAILED;
+}
+
+/* The answer to a board, once standard output has taken all of it. A part that it did not take earlier
+ * is known by ferror, and errno is still of that, since nothing but printing came after it. */
+static int printed(int answered)
+{
+    if (fflush(stdout) != 0 || ferror(stdout)) {
+        return cannot_print(strerror(errno));
+    }
+    return answered;
 }
 
 static int print_refusal(size_t code)
@@ -128,46 +154,55 @@ static int answer(const char *name, struct question question)
 {
     struct bytes board = read_named(name);
     if (board.start == NULL) {
-        return UNREAD;
+        return FAILED;
     }
-    int answered = question.print(board, question.lent);
+    int answered = printed(question.print(board, question.lent));
     free(board.start);
     return answered;
 }
 
-/* The worst of the answers to the boards of these names. */
+/* The worst of the answers to the boards of these names, as far as they can be printed. */
 static int answer_all(int count, char **names, struct question question)
 {
     if (count == 0) {
         return answer(NULL, question);
     }
     int worst = ANSWERED;
-    for (int i = 0; i < count; i++) {
+    for (int i = 0; i < count && !ferror(stdout); i++) {
         int answered = answer(names[i], question);
         worst = answered > worst ? answered : worst;
     }
     return worst;
 }
 
-int main(int count, char **arguments)
+static int run(int count, char **arguments)
 {
     struct question question = {print_verdict, {NULL, 0}};
-    if (count > 1 && strcmp(arguments[1], "--digests") == 0) {
+    if (count > 0 && strcmp(arguments[0], "--digests") == 0) {
         question.print = print_found;
-    } else if (count > 1 && strcmp(arguments[1], "--names") == 0) {
+    } else if (count > 0 && strcmp(arguments[0], "--names") == 0) {
         question.print = print_text;
     } else {
-        return answer_all(count - 1, arguments + 1, question);
+        return answer_all(count, arguments, question);
     }
-    if (count < 3) {
+    if (count < 2) {
         fprintf(stderr, "usage: boardhost [--digests FILE | --names FILE] [BOARD...]\n");
-        return UNREAD;
+        return FAILED;
     }
-    question.lent = read_named(arguments[2]);
+    question.lent = read_named(arguments[1]);
     if (question.lent.start == NULL) {
-        return UNREAD;
+        return FAILED;
     }
-    int worst = answer_all(count - 3, arguments + 3, question);
+    int worst = answer_all(count - 2, arguments + 2, question);
     free(question.lent.start);
     return worst;
+}
+
+/* Whether standard output is closed is asked before a file is opened, which would take its place. */
+int main(int count, char **arguments)
+{
+    if (fcntl(STDOUT_FILENO, F_GETFD) < 0) {
+        return cannot_print("standard output is closed");
+    }
+    return run(count - 1, arguments + 1);
 }

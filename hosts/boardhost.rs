@@ -10,10 +10,15 @@
 //!
 //! With no board it takes the one on standard input. A board that cannot be read gets a line on
 //! standard error and no answer, and the next one follows; if the digests or names cannot be read, none
-//! gets an answer. Ends with 0 if all boards are accepted, walked or told, 1 if one is refused, 2 if a
-//! file cannot be read.
-use std::io::{self, Read, Write};
+//! gets an answer. Where standard output is closed, or does not take an answer, a line on standard error
+//! says why, and no other answer follows. Ends with 0 if all boards are accepted, walked or told, 1 if
+//! one is refused, 2 if a file cannot be read or an answer cannot be printed.
+use std::ffi::{c_int, OsStr, OsString};
+use std::fs::File;
+use std::io::{self, BufWriter, Read, Write};
+use std::os::fd::AsFd;
 use std::process::ExitCode;
+use std::sync::atomic::{AtomicBool, Ordering};
 
 /// The length of a check's answer: rounds, winner, and 8 numbers for the order of going out.
 const ANSWER: usize = 10;
@@ -26,7 +31,9 @@ const TEXT_MOST: usize = 1454;
 
 const ANSWERED: u8 = 0;
 const REFUSED: u8 = 1;
-const UNREAD: u8 = 2;
+
+/// Not read, or not printed.
+const FAILED: u8 = 2;
 
 #[link(name = "gooseoften", kind = "static")]
 extern "C" {
@@ -48,6 +55,47 @@ extern "C" {
         out_length: usize,
         answer: *mut [usize; 1],
     ) -> usize;
+}
+
+extern "C" {
+    fn fcntl(descriptor: c_int, command: c_int, ...) -> c_int;
+}
+
+const F_GETFD: c_int = 1;
+
+/// Whether the program was started with the stream closed.
+static INPUT_CLOSED: AtomicBool = AtomicBool::new(false);
+static OUTPUT_CLOSED: AtomicBool = AtomicBool::new(false);
+
+/// The C library calls what stands in this section before the runtime starts. The runtime opens
+/// /dev/null in the place of a standard stream that is closed, so `main` would ask too late.
+#[used]
+#[link_section = ".init_array"]
+static BEFORE_RUNTIME: extern "C" fn() = ask_closed;
+
+extern "C" fn ask_closed() {
+    for (descriptor, closed) in [(0, &INPUT_CLOSED), (1, &OUTPUT_CLOSED)].iter() {
+        // SAFETY: the command takes no further argument, and changes nothing.
+        let flags = unsafe { fcntl(*descriptor, F_GETFD) };
+        closed.store(flags < 0, Ordering::Relaxed);
+    }
+}
+
+/// A standard stream as a file: where its descriptor is not open for reading or writing, that is an
+/// error there, and none to `Stdin` and `Stdout`.
+fn standard(stream: impl AsFd, name: &str, closed: &AtomicBool) -> io::Result<File> {
+    if closed.load(Ordering::Relaxed) {
+        return Err(io::Error::other(format!("{name} is closed")));
+    }
+    stream.as_fd().try_clone_to_owned().map(File::from)
+}
+
+fn input() -> io::Result<File> {
+    standard(io::stdin(), "standard input", &INPUT_CLOSED)
+}
+
+fn output() -> io::Result<File> {
+    standard(io::stdout(), "standard output", &OUTPUT_CLOSED)
 }
 
 /// What is asked of every board, with what is lent for it: the verdict, the ballots of digests, the
@@ -145,75 +193,76 @@ fn print_found(found: &[u16], out: &mut impl Write) -> io::Result<()> {
 
 /// The bytes of a file, of standard input where it has no name; a line on standard error where it
 /// cannot be read.
-fn read(name: Option<&str>) -> Option<Vec<u8>> {
-    let bytes = match name {
-        Some(name) => std::fs::read(name),
-        None => {
-            let mut bytes = Vec::new();
-            io::stdin().read_to_end(&mut bytes).map(|_| bytes)
-        }
-    };
-    if bytes.is_err() {
-        eprintln!("boardhost: cannot read {}", name.unwrap_or("standard input"));
+fn read(name: Option<&OsStr>) -> Option<Vec<u8>> {
+    let mut bytes = Vec::new();
+    let file = name.map_or_else(input, File::open);
+    let read = file.and_then(|mut file| file.read_to_end(&mut bytes));
+    if read.is_err() {
+        let name = name.unwrap_or(OsStr::new("standard input"));
+        say(&format!("boardhost: cannot read {}", name.to_string_lossy()));
     }
-    bytes.ok()
+    read.ok().map(|_| bytes)
 }
 
-/// Prints the answer to one board.
-fn answer(name: Option<&str>, question: Question) -> io::Result<u8> {
+/// A line on standard error. `eprintln!` would panic where that does not take it.
+fn say(line: &str) {
+    let _ = writeln!(io::stderr(), "{line}");
+}
+
+/// Prints the answer to one board; an error where not all of it is taken.
+fn answer(name: Option<&OsStr>, question: Question, out: &mut impl Write) -> io::Result<u8> {
     let Some(board) = read(name) else {
-        return Ok(UNREAD);
+        return Ok(FAILED);
     };
-    let out = &mut io::stdout().lock();
     let result = match question {
         Question::Verdict => check(&board).map(|accepted| print_accepted(&accepted, out)),
         Question::Receipts(digests) => find(&board, digests).map(|found| print_found(&found, out)),
         Question::Text(names) => text(&board, names).map(|text| out.write_all(&text)),
     };
-    match result {
+    let answered = match result {
         Ok(printed) => printed.map(|()| ANSWERED),
         Err(Refusal { number, record }) => {
             writeln!(out, "refused {number} {record}").map(|()| REFUSED)
         }
-    }
+    }?;
+    out.flush().map(|()| answered)
 }
 
 /// The worst of the answers to the boards of these names.
-fn answer_all(names: &[String], question: Question) -> io::Result<u8> {
+fn answer_all(names: &[OsString], question: Question, out: &mut impl Write) -> io::Result<u8> {
     if names.is_empty() {
-        return answer(None, question);
+        return answer(None, question, out);
     }
     let mut worst = ANSWERED;
     for name in names {
-        worst = worst.max(answer(Some(name), question)?);
+        worst = worst.max(answer(Some(name), question, out)?);
     }
     Ok(worst)
 }
 
-fn run(arguments: &[String]) -> io::Result<u8> {
-    let receipts = match arguments.first().map(String::as_str) {
+fn run(arguments: &[OsString]) -> io::Result<u8> {
+    let out = &mut BufWriter::new(output()?);
+    let receipts = match arguments.first().and_then(|first| first.to_str()) {
         Some("--digests") => true,
         Some("--names") => false,
-        _ => return answer_all(arguments, Question::Verdict),
+        _ => return answer_all(arguments, Question::Verdict, out),
     };
     let [_, file, boards @ ..] = arguments else {
-        eprintln!("usage: boardhost [--digests FILE | --names FILE] [BOARD...]");
-        return Ok(UNREAD);
+        say("usage: boardhost [--digests FILE | --names FILE] [BOARD...]");
+        return Ok(FAILED);
     };
     match read(Some(file)) {
-        Some(digests) if receipts => answer_all(boards, Question::Receipts(&digests)),
-        Some(names) => answer_all(boards, Question::Text(&names)),
-        None => Ok(UNREAD),
+        Some(digests) if receipts => answer_all(boards, Question::Receipts(&digests), out),
+        Some(names) => answer_all(boards, Question::Text(&names), out),
+        None => Ok(FAILED),
     }
 }
 
 fn main() -> ExitCode {
-    let arguments: Vec<String> = std::env::args().skip(1).collect();
-    match run(&arguments) {
-        Ok(worst) => ExitCode::from(worst),
-        Err(error) => {
-            eprintln!("boardhost: cannot print: {error}");
-            ExitCode::from(UNREAD)
-        }
-    }
+    let arguments: Vec<OsString> = std::env::args_os().skip(1).collect();
+    let ended = run(&arguments).unwrap_or_else(|error| {
+        say(&format!("boardhost: cannot print: {error}"));
+        FAILED
+    });
+    ExitCode::from(ended)
 }

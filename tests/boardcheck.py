@@ -4,11 +4,13 @@
   python3 tests/boardcheck.py [--without-c]
 
 It runs target/bin/boardcheck, which `rt check boardcheck` builds, on every stored board, on boards
-of exactly 65,536 bytes and of one byte more, and on input that comes in parts, late, interrupted, or
-that cannot be read.  A board that was not read to its end gets no verdict: nothing on standard
-output, a line on standard error.  Interrupted reads need a C compiler: without one the test fails,
-unless --without-c asks for that part to be left out.  Ends with 1 where anything is not as due.
+of exactly 65,536 bytes and of one byte more, on input that comes in parts, late, interrupted, or
+that cannot be read, with output that takes nothing, and with arguments.  A board that was not read
+to its end gets no verdict: nothing on standard output, a line on standard error.  Interrupted reads
+need a C compiler: without one the test fails, unless --without-c asks for that part to be left out.
+Ends with 1 where anything is not as due.
 """
+import errno
 import os
 import subprocess
 import sys
@@ -20,7 +22,10 @@ from library import c_compiler
 from stored import LIMIT, Comparison, path
 
 PROGRAM = path('target', 'bin', 'boardcheck')
+SAMPLE = path('crates', 'boardcheck', 'stdin')
 NO_VERDICT = ('', 'boardcheck: no verdict, cannot read the board: ')
+NO_ARGUMENTS = ('boardcheck: no verdict, it takes no arguments; the board is read from standard '
+                'input\n')
 
 
 def seen(done):
@@ -73,11 +78,28 @@ def closed():
     return seen(subprocess.run(['sh', '-c', 'exec "$0" <&-', PROGRAM], capture_output=True))
 
 
-def full_output(board):
+def redirected(board, how):
+    """What is printed with standard output redirected, as sh writes it."""
+    done = subprocess.run(['sh', '-c', 'exec "$0" ' + how, PROGRAM], input=board,
+                          capture_output=True)
+    return done.stdout.decode(), done.stderr.decode()
+
+
+def untaken(boards, comparison):
     """Standard output that takes nothing."""
-    with open('/dev/full', 'wb') as full:
-        done = subprocess.run([PROGRAM], input=board, stdout=full, stderr=subprocess.PIPE)
-    return done.stderr.decode().startswith('boardcheck: cannot print the verdict')
+    ways = (('>/dev/full', errno.ENOSPC), ('>&-', errno.EBADF))
+    comparison.compare('boardcheck, output that takes nothing',
+                       [redirected(board, how) for how, _ in ways for board in boards],
+                       [('', 'boardcheck: cannot print the verdict: %s\n' % os.strerror(error))
+                        for _, error in ways for _ in boards])
+
+
+def with_arguments(*arguments):
+    """What is printed, and how many bytes of the board are read."""
+    with open(SAMPLE, 'rb') as board:
+        done = subprocess.run([PROGRAM, *arguments], stdin=board, capture_output=True)
+        return (done.stdout.decode(), done.stderr.decode(),
+                os.lseek(board.fileno(), 0, os.SEEK_CUR))
 
 
 def interrupted(board, verdict, comparison, folder):
@@ -113,7 +135,11 @@ def main(arguments):
     comparison.compare('boardcheck, input that cannot be read', [
         failing_pipe(sample), failing_pipe(sample[:3]), failing_pipe(b''), directory(), closed()],
         [NO_VERDICT] * 5)
-    comparison.compare('boardcheck, output that takes nothing', [full_output(sample)], [True])
+    untaken([sample, b'', longest + b'\0'], comparison)
+    comparison.compare('boardcheck, arguments', [
+        with_arguments(), with_arguments(SAMPLE), with_arguments(SAMPLE, SAMPLE),
+        with_arguments(''), with_arguments('', '--help')],
+        [(verdict, '', len(sample))] + [('', NO_ARGUMENTS, 0)] * 4)
     if '--without-c' not in arguments:
         with tempfile.TemporaryDirectory() as folder:
             interrupted(sample, verdict, comparison, folder)

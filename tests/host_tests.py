@@ -1,4 +1,5 @@
 """What the hosts print, and with which status they end: for library.py."""
+import errno
 import hashlib
 import os
 import random
@@ -19,7 +20,7 @@ USAGE = 'usage: boardhost [--digests FILE | --names FILE] [BOARD...]\n'
 
 def run_host(program, *names, **more):
     done = subprocess.run([program, *names], capture_output=True, **more)
-    return done.stdout.decode(), done.stderr.decode(), done.returncode
+    return done.stdout.decode(), done.stderr.decode(errors='replace'), done.returncode
 
 
 def put(folder, name, data):
@@ -67,14 +68,17 @@ def unreadable(program):
     with open(SOUND, 'rb') as board, open('/dev/null') as nothing:
         return [run_host(program, missing), run_host(program, missing, SOUND, folder, SOUND),
                 run_host(program, SOUND, '/dev/null'), run_host(program, stdin=board),
-                run_host(program, stdin=nothing)]
+                run_host(program, stdin=nothing), redirected(program, '<&-'),
+                redirected(program, '0>/dev/null'),
+                run_host(program, b'no such board \xff', SOUND)[::2]]
 
 
 def unreadable_due():
     sound = stored.content('crates', 'boardcheck', 'stdout').decode()
     folder, missing = path('tests'), path('tests', 'no_such_board')
     return [('', UNREAD % missing, 2), (2 * sound, UNREAD % missing + UNREAD % folder, 2),
-            (sound + 'refused 1 0\n', '', 1), (sound, '', 0), ('refused 1 0\n', '', 1)]
+            (sound + 'refused 1 0\n', '', 1), (sound, '', 0), ('refused 1 0\n', '', 1),
+            *[('', UNREAD % 'standard input', 2)] * 2, (sound, 2)]
 
 
 # ------------------------------------------------------------------ receipts and texts
@@ -148,6 +152,34 @@ def readme_example():
     return found[1].replace('\\n', '\n').encode(), re.sub('^    ', '', found[2], flags=re.M)
 
 
+# ------------------------------------------------------------------ output that takes nothing
+
+UNTAKEN = (('>/dev/full', os.strerror(errno.ENOSPC)),        # as sh writes it, and the reason
+           ('>&-', 'standard output is closed'),
+           ('1</dev/null', os.strerror(errno.EBADF)))
+
+
+def redirected(program, how, *names):
+    """What a host does with its output redirected, without the number that Rust puts behind the
+    system's words."""
+    out, error, status = run_host('sh', '-c', 'exec "$0" "$@" ' + how, program, *names)
+    return out, re.sub(r' \(os error \d+\)\n', '\n', error), status
+
+
+def compare_untaken(comparison, name, program, folder):
+    """Verdict, receipts and text of an accepted board, of a refused one and of both; and standard error
+    that takes nothing either."""
+    lent = ((), ('--digests', put(folder, 'digests', sample_digests())),
+            ('--names', put(folder, 'names', NAMES)))
+    asked = [(*question, *boards) for question in lent
+             for boards in ((SOUND,), ('/dev/null',), (SOUND, '/dev/null'))]
+    comparison.compare(name + ', output that takes nothing',
+                       [redirected(program, how, *words) for how, _ in UNTAKEN for words in asked]
+                       + [redirected(program, '>/dev/full 2>&1', *words) for words in asked],
+                       [('', 'boardhost: cannot print: %s\n' % reason, 2)
+                        for _, reason in UNTAKEN for _ in asked] + [('', '', 2)] * len(asked))
+
+
 # ------------------------------------------------------------------ all
 
 def compare_lent(comparison, name, program, folder):
@@ -182,3 +214,4 @@ def compare_hosts(comparison, hosts, folder):
         comparison.compare(name + ', files that cannot be read', unreadable(program),
                            unreadable_due())
         compare_lent(comparison, name, program, folder)
+        compare_untaken(comparison, name, program, folder)

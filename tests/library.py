@@ -8,7 +8,8 @@ It builds libgooseoften.a (`rt staticlib gooseoften`) and the hosts in C and in 
   - the verdicts of both hosts on the stored boards of crates/cases with the stored ones, which the
     reference made;
   - their verdicts on boards beyond 65,536 bytes, sound and damaged, with the reference's;
-  - what both do with files that cannot be read, and with which status they end;
+  - what both do with files that cannot be read and with output that takes nothing, and with which
+    status they end;
   - what both print of the digests of a file, for the stored finds of crates/find_cases, and with the
     names of a file, for the stored texts of crates/text_cases;
   - the text that both print for README's example with the one that README shows;

@@ -1,4 +1,6 @@
 // Answers of the checker and the writer, as parts of a line on standard output.
+//
+// What is proved of the functions here is that they are safe and end; what they hand to the operating system is tested and not proved.
 use libc::STDOUT_FILENO;
 use rules::Refusal;
 

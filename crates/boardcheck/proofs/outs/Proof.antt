@@ -1,7 +1,7 @@
 use Prim.Native.Nat.{_-_, _≤_}
 use borrow.Author.Needs.{needs}
-use Rattle.boardcheck.proofs.print.outs.Statement.{statement}
-use Rattle.boardcheck.proofs.print.outs.Tie as tie
+use Rattle.boardcheck.proofs.outs.Statement.{statement}
+use Rattle.boardcheck.proofs.outs.Tie as tie
 
 abbrev Inv-loop : tie.InvT-loop
 Inv-loop count order i₀ t5 i = (i ≤ 8)
