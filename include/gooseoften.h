@@ -4,6 +4,13 @@
  * The four functions take any bytes and any numbers, keep nothing between calls, allocate nothing,
  * and read and write only what is lent. What they return and write is proved.
  *
+ * What an accepted board promises: every rule holds on it. Its result is the plain count of its counted
+ * ballots' rankings if their matrices open to rankings, and each later one to the one before with a row
+ * struck; the proofs on the board vouch for that, and no further than its maker is trusted: the group
+ * is below 2^31, so whoever makes a board can forge a proof by about q tries of the hash, minutes on a
+ * desk computer, and the board is accepted. Let nobody make boards who is not trusted with the count.
+ * Nor is a ranking secret from a computer in such a group.
+ *
  * The caller sees to it that each pointer has as many elements behind it as the length after it
  * says, that answer has its fixed length, that out, found and answer overlap nothing else that is
  * lent, and that nobody else writes to what is lent before the call returns. Where a length is 0 the
@@ -70,7 +77,8 @@ enum gooseoften_answer {
 };
 
 /* The verdict on a board. Its result is that of the counted ballots; an audited ballot opens to the
- * ranking that it shows, with the exponents that it shows, and is not counted. */
+ * ranking that it shows, with the exponents that it shows, and is not counted. A ballot's kind is in no
+ * proof's message: that it was not turned is told by the receipt alone. */
 size_t gooseoften_check(const uint8_t *board, size_t board_length,
                         size_t answer[GOOSEOFTEN_CHECK_LENGTH]);
 

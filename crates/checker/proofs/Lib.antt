@@ -1,4 +1,2 @@
 -- Laws that the proofs of `checker` cite.
 pub mod Onward
-pub mod Frame
-pub mod Held

@@ -3,6 +3,7 @@ use count::Count;
 use frames::Fault;
 use header::Head;
 use header::HeaderRead;
+use reading::Reading;
 use records::Passed;
 use round::RecordsRead;
 use round::Round;
@@ -27,11 +28,10 @@ ghost use Rattle.round.specs.Rounds.{Begins, Later};
 ghost use Rattle.round.specs.Walks.{Walked, RecordPasses};
 ghost use Rattle.round.specs.Outcomes.{RecordsReads, Rounded};
 ghost use Rattle.checker.specs.Models.{Narrower};
-ghost use Rattle.checker.specs.Counts.{Verified};
+ghost use Rattle.checker.specs.Counts.{stopsFrom, stopsAt, Verified};
 
-mod reading;
-
-// The answer to a board and the count that its sheets came to, up to where it is refused; of an accepted one the number of processes, too.
+// The answer to a board; of an accepted one the count that its sheets came to and the number of processes, of a refused one the standing count of the
+// round that was refused, and 0.
 pub struct Counted {
     pub answer: Answer,
     pub n: usize,
@@ -65,12 +65,29 @@ fn accepted(count: Count, n: usize, winner: usize) -> Counted
     }
 }
 
+// What the ballot that is next has in a round, at the next place.
+fn record_of<'a>(r: Reading<'a>, h: Head, round: Round, walk: Walk) -> Passed
+    requires { ⌜ HeaderKnown ranked (now (r .board)) h × Walked (now (r .board)) h round (r .next) walk × (walk .k < h .k) × (round .m + 1 < h .n) × (0 < round .m → Later h round) ⌝ }
+    ensures { λ o. ⌜ RecordPasses (now (r .entry .board)) h (round .a) (round .m) (walk .k) (r .entry .next) o ⌝ }
+{
+    round::read_record(r.board, r.next, h, round, walk)
+}
+
 // What the ballot that is next has in a round, read at a place.
 fn next_record(board: &[u8], at: usize, h: Head, round: Round, walk: Walk) -> Passed
     requires { ⌜ HeaderKnown ranked (now board) h × Walked (now board) h round at walk × (walk .k < h .k) × (round .m + 1 < h .n) × (0 < round .m → Later h round) ⌝ }
     ensures { λ r. ⌜ RecordPasses (now (board .entry)) h (round .a) (round .m) (walk .k) at r ⌝ }
 {
-    reading::record_of(reading::start(board, at), h, round, walk)
+    record_of(reading::start(board, at), h, round, walk)
+}
+
+// The sheet at the next place, after the records of its round.
+fn sheet_of<'a>(r: Reading<'a>, h: Head, count: Count, round: Round, read: RecordsRead) -> RoundRead
+    requires { ⌜ HeaderKnown ranked (now (r .board)) h × Kept count × (count .gone .outs ≡ round .m) × (round .m + 1 < h .n) ⌝ }
+    requires { ⌜ RecordsReads (now (r .board)) h (round .a) (round .m) read × (r .next ≡ read .next) ⌝ }
+    ensures { λ o. ⌜ Rounded (now (r .entry .board)) h count (round .m) (round .a) o ⌝ }
+{
+    round::end_round(r.board, r.next, h, count, round, read)
 }
 
 // The sheet of a round whose records are read, at a place.
@@ -85,7 +102,7 @@ fn next_sheet(
     requires { ⌜ HeaderKnown ranked (now board) h × Kept count × (count .gone .outs ≡ round .m) × (round .m + 1 < h .n) × RecordsReads (now board) h (round .a) (round .m) read × (at ≡ read .next) ⌝ }
     ensures { λ r. ⌜ Rounded (now (board .entry)) h count (round .m) (round .a) r ⌝ }
 {
-    reading::sheet_of(reading::start(board, at), h, count, round, read)
+    sheet_of(reading::start(board, at), h, count, round, read)
 }
 
 // The ballots' records of a round that starts at a place, each read where the one before it ends.
@@ -126,7 +143,7 @@ fn read_round(board: &[u8], at: usize, h: Head, count: Count, round: Round) -> R
 // The rounds from a place on, one after another. Each sheet takes the standing count and hands back the next.
 fn rounds(board: &[u8], at: usize, h: Head) -> Counted
     requires { ⌜ HeaderKnown ranked (now board) h × (at ≡ headerLength) ⌝ }
-    ensures { λ r. ⌜ Verified (now (board .entry)) (headOf (now (board .entry)) h) (checkFrom sha256 (now (board .entry)) (headOf (now (board .entry)) h) (h .n) start 0 0) r ⌝ }
+    ensures { λ r. ⌜ Verified (now (board .entry)) (headOf (now (board .entry)) h) (checkFrom sha256 (now (board .entry)) (headOf (now (board .entry)) h) (h .n) start 0 0) (stopsFrom sha256 (now (board .entry)) (headOf (now (board .entry)) h) (h .n) start 0 0) r ⌝ }
 {
     let head = h;
     let n = h.n;
@@ -158,7 +175,7 @@ fn rounds(board: &[u8], at: usize, h: Head) -> Counted
 // The verdict on a board of a model whose header was read, its rounds being read from a place on.
 fn verdict(board: &[u8], at: usize, model: Model, read: HeaderRead) -> Counted
     requires { ⌜ Narrower model × HeaderReads model (now board) read × (at ≡ headerLength) ⌝ }
-    ensures { λ r. ⌜ Verified (now (board .entry)) (header (now (board .entry))) (checkModel sha256 (now (board .entry)) model) r ⌝ }
+    ensures { λ r. ⌜ Verified (now (board .entry)) (header (now (board .entry))) (checkModel sha256 (now (board .entry)) model) (stopsAt sha256 (now (board .entry)) model) r ⌝ }
 {
     match read {
         HeaderRead::Board(h) => rounds(board, at, h),
@@ -166,19 +183,27 @@ fn verdict(board: &[u8], at: usize, model: Model, read: HeaderRead) -> Counted
     }
 }
 
+// The verdict on a board whose header was read, its rounds being read from the next place on.
+fn verdict_of<'a>(r: Reading<'a>, model: Model, read: HeaderRead) -> Counted
+    requires { ⌜ Narrower model × HeaderReads model (now (r .board)) read × (r .next ≡ headerLength) ⌝ }
+    ensures { λ c. ⌜ Verified (now (r .entry .board)) (header (now (r .entry .board))) (checkModel sha256 (now (r .entry .board)) model) (stopsAt sha256 (now (r .entry .board)) model) c ⌝ }
+{
+    verdict(r.board, r.next, model, read)
+}
+
 // The verdict on a board of a model. Its header is read at the first place, the rounds from the place after it on.
 fn check_model(board: &[u8], model: Model) -> Counted
     requires { ⌜ Narrower model ⌝ }
-    ensures { λ r. ⌜ Verified (now (board .entry)) (header (now (board .entry))) (checkModel sha256 (now (board .entry)) model) r ⌝ }
+    ensures { λ r. ⌜ Verified (now (board .entry)) (header (now (board .entry))) (checkModel sha256 (now (board .entry)) model) (stopsAt sha256 (now (board .entry)) model) r ⌝ }
 {
     let r = reading::start(board, 0);
     let read = reading::header_of(r, model);
-    reading::verdict_of(reading::moved(r, layout::HEADER_LENGTH), model, read)
+    verdict_of(reading::moved(r, layout::HEADER_LENGTH), model, read)
 }
 
 // The verdict on a board of rankings, and its count.
 pub fn count_board(board: &[u8]) -> Counted
-    ensures { λ r. ⌜ Verified (now (board .entry)) (header (now (board .entry))) (checkBoard sha256 (now (board .entry))) r ⌝ }
+    ensures { λ r. ⌜ Verified (now (board .entry)) (header (now (board .entry))) (checkBoard sha256 (now (board .entry))) (stopsAt sha256 (now (board .entry)) ranked) r ⌝ }
 {
     check_model(board, layout::ranked())
 }

@@ -34,7 +34,7 @@ module _ (hash : List ℕ → List ℕ) (job : Job) (g : Parameters) where
       shiftBytes hash (job .label) g (job .n) (job .n - suc m) (suc m + 1) (k + 1) (rowsOf job before k) (rowsOf job (before ++ (a ∷ [])) k)
       (rowOf a (remaining before (rankingOf job k))) (a - 1) (job .draws) (jobDraws job m k) (jobDraws job (suc m) k)
 
-  -- what ballot k has in round m: an audited ballot "has no SH (the others keep their numbers)"
+  -- what ballot k has in round m; 02, L5: an audited ballot "has no SH (the others keep their numbers)"
   unfoldable pub recordBytes : (before : List ℕ) (a m k : ℕ) → List ℕ
   recordBytes before a zero k = jobBallot k
   recordBytes before a (suc m) k = cond (isCounted (kindOf job k)) (jobShift before a m k) []

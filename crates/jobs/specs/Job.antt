@@ -33,7 +33,7 @@ ballotDraws n = 4 * (n * n) + 2 * n
 abbrev pub shiftDraws : (n R : ℕ) → ℕ
 shiftDraws n R = R * n + (R + 1) * (2 + R * n) + R
 
--- of what a ballot of a kind has in round m: an audited ballot "has no SH"
+-- of what a ballot of a kind has in round m; 02, L5: an audited ballot "has no SH"
 unfoldable pub recordDraws : (n kind m : ℕ) → ℕ
 recordDraws n kind zero = ballotDraws n
 recordDraws n kind (suc m) = cond (isCounted kind) (shiftDraws n (n - suc m)) 0
@@ -83,7 +83,7 @@ module _ (job : Job) where
   abbrev pub rowsOf : (gone : List ℕ) (k : ℕ) → ℕ → ℕ
   rowsOf gone k i = getD (remaining gone (rankingOf k)) i 0
 
-  -- how many of the first k ballots are counted; and the rankings of all that are: "The plain result now concerns counted rankings"
+  -- how many of the first k ballots are counted; and the rankings of all that are; 02, L5: "The plain result now concerns counted rankings"
   abbrev pub countedBelow : (k : ℕ) → ℕ
   countedBelow k = sumBelow k (λ i. cond (isCounted (kindOf i)) 1 0)
 

@@ -26,7 +26,7 @@ rankingsGood job = eqb (length (job .rankings)) (job .K * job .n) && allBelow (j
 abbrev pub kindsGood : Job → Bool
 kindsGood job = eqb (length (job .kinds)) (job .K) && allBelow (job .K) (λ k. isCounted (kindOf job k) || isAudited (kindOf job k))
 
--- "with 19 a board with nothing counted"
+-- 02, L5: "with 19 a board with nothing counted"
 abbrev pub someCounted : Job → Bool
 someCounted job = not (eqb (countedBelow job (job .K)) 0)
 
@@ -38,7 +38,7 @@ drawsGood job = leb (needed job) (length (job .draws)) && allBelow (needed job) 
 unfoldable pub different : (draws : List ℕ) (from size : ℕ) → Bool
 different draws from size = allBelow size (λ j. allBelow j (λ i. not (eqb (getD draws (from + i) 0) (getD draws (from + j) 0))))
 
--- of the matrices of so many rounds, each by itself: "Across matrices a repeat stays allowed."
+-- of the matrices of so many rounds, each by itself; 02, L6: "Across matrices a repeat stays allowed."
 abbrev pub roundsDifferent : (n : ℕ) (kind : ℕ → ℕ) (K rounds : ℕ) (draws : List ℕ) → Bool
 roundsDifferent n kind K rounds draws = allBelow rounds (λ m. allBelow K (λ k. different draws (drawsAt n kind K m k) (recordSecrets n (kind k) m)))
 

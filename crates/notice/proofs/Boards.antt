@@ -6,7 +6,7 @@ use native.Mathlib.Omega.{arith}
 use lib.ListN.{take}
 use Rattle.sha256.specs.Message.{sha256}
 use Rattle.rules.specs.Count.{Result}
-use Rattle.rules.specs.Header.{header}
+use Rattle.rules.specs.Header.{ranked, header}
 use Rattle.rules.specs.Check.{accepted, refused, checkBoard}
 use Rattle.rules.specs.Sentences.{whoIn}
 use Rattle.rules.specs.Notice.{boardResult, textRefused, tell, textOutcome}
@@ -16,13 +16,13 @@ use Rattle.rules.specs.declared.Refusal.{Refusal}
 use Rattle.count.specs.declared.Ended.{Ended}
 use Rattle.count.specs.State.{resultOf}
 use Rattle.checker.specs.declared.Counted.{Counted}
-use Rattle.checker.specs.Counts.{Ends, CountOf, Verified}
+use Rattle.checker.specs.Counts.{stopsAt, Ends, CountOf, Verified}
 use Rattle.sentences.specs.Lines.{Finished}
 use Rattle.whole.specs.Sentences.{IsResult}
 use Rattle.whole.proofs.Sentences.{notices}
 use Rattle.whole.proofs.Sentences.Rounds.{who-in}
 
-module _ (s lent : List ℕ) (room : ℕ) (r : Counted) (w : Verified s (header s) (checkBoard sha256 s) r) where
+module _ (s lent : List ℕ) (room : ℕ) (r : Counted) (w : Verified s (header s) (checkBoard sha256 s) (stopsAt sha256 s ranked) r) where
   -- "A board that the checker refuses is refused alike, first."
   pub refused-alike : (why : Refusal) (number : ℕ) → r .answer ≡ A.Refused why number → textOutcome sha256 s lent room ≡ textRefused (refusalNumber why) number
   unfolding textOutcome
@@ -38,7 +38,7 @@ module _ (s lent : List ℕ) (room : ℕ) (r : Counted) (w : Verified s (header 
     verdict-is = sym (w .verdict) ∙ rw a
 
     pub ends : Ends s (header s) rounds order winner (r .n) (r .count)
-    ends = subst (λ v. CountOf s (header s) v (r .n) (r .count)) verdict-is (w .counted)
+    ends = subst (λ v. CountOf s (header s) v (stopsAt sha256 s ranked) (r .n) (r .count)) verdict-is (w .counted)
 
     abbrev ended : Ended
     ended = record { count = r .count; winner = winner }

@@ -5,11 +5,11 @@ use group::Group;
 ghost use mathlib.Core.Path.{_≡_};
 ghost use mathlib.Core.Bool.{cond};
 ghost use Prim.Native.Nat.{ℕ, _+_, _*_, _≤_, _<_};
-ghost use lib.Dec.{eqb, ltb};
+ghost use lib.Dec.{eqb};
 ghost use lib.ListN.{length};
 ghost use Rattle.numbers.specs.Below.{allBelow};
 ghost use Rattle.group.specs.Elements.{parametersOf};
-ghost use Rattle.rules.specs.Bytes.{part, number4};
+ghost use Rattle.rules.specs.Bytes.{part};
 ghost use Rattle.rules.specs.Count.{member, isRanking};
 ghost use Rattle.rules.specs.Audit.{pairOpens};
 ghost use Rattle.openings.specs.Shown.{opensAt};
@@ -52,19 +52,6 @@ pub fn pair_opens(g: Group, b: Element, y: Element, x: Exponent, v: Exponent) ->
     } else {
         false
     }
-}
-
-// Whether numbers at a place, one after another, are below q.
-pub fn exponents_good(s: &[u8], at: usize, count: usize, q: u32) -> bool
-    requires { ⌜ at + 4 * count ≤ length (now s) ⌝ }
-    ensures { λ r. ⌜ r ≡ allBelow count (λ t. ltb (number4 (now (s .entry)) (at + 4 * t)) q) ⌝ }
-{
-    for i in 0..count {
-        if q <= fields::number4(s, at + 4 * i) {
-            return false;
-        }
-    }
-    true
 }
 
 // The value of a pair in the row of a process: 1 in that process's column, counted from 0.

@@ -37,14 +37,14 @@ pub struct Branch {
 }
 
 // The challenge that a branch is written with at first: 0 for the known one, else the draw at a place.
-fn first_challenge(draws: &[u32], at: usize, known: bool) -> u32
+fn first_challenge(draws: &[u32], at: usize, known: bool) -> Exponent
     requires { ⌜ (known ≡ false → at < length (now draws)) ⌝ }
-    ensures { λ e. ⌜ e ≡ cond known 0 (getD (now (draws .entry)) at 0) ⌝ }
+    ensures { λ e. ⌜ e .0 ≡ cond known 0 (getD (now (draws .entry)) at 0) ⌝ }
 {
     if known {
-        return 0;
+        return Exponent(0);
     }
-    draws[at]
+    Exponent(draws[at])
 }
 
 // Where its nonces or its responses start.
@@ -80,13 +80,13 @@ pub fn commit_branch(
     let known = l == plan.known;
     let e = first_challenge(draws, branch.at, known);
     let first = after_challenge(branch.at, known);
-    output::put_number4(out, e);
+    output::put_number4(out, e.0);
     let mut k = h;
     for i in 0..statements {
         let s = claims::claimed(page, inverses, g, claim, l, i);
         let place = 4 + 12 * i;
         let r = Exponent(draws[first + i]);
-        let next = statement::put_draft(&mut out[place..], k, group, s, known, Exponent(e), r);
+        let next = statement::put_draft(&mut out[place..], k, group, s, known, e, r);
         k = next;
     }
     k

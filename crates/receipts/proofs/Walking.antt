@@ -6,8 +6,6 @@ use native.Mathlib.Omega.{arith}
 use lib.ListN.{length}
 use borrow.Author.Tests.{le-leb}
 use Rattle.numbers.proofs.Search.{extend}
-use Rattle.sha256.specs.Message.{sha256}
-use Rattle.rules.specs.Bytes.{part}
 use Rattle.rules.specs.Records.{kindAt, headerLength, ballotLength, recordLength}
 use Rattle.rules.specs.Tests.{firstFault}
 use Rattle.rules.specs.Header.{header}
@@ -22,9 +20,10 @@ use Rattle.rules.proofs.Lists.{length-table}
 use Rattle.frames.specs.declared.Fault.{Fault}
 use Rattle.frames.specs.declared.Fault.the-variants as F
 use Rattle.frames.specs.Framed.{Framed, BallotFramed}
+use Rattle.receipts.specs.declared.Hashed.{Hashed}
 use Rattle.receipts.specs.declared.Walk.the-variants.{Sound, Refused}
 use Rattle.digests.specs.Order.{entered}
-use Rattle.receipts.specs.Steps.{numbersAfter, Headed, Walked}
+use Rattle.receipts.specs.Steps.{numbersAfter, HashedBy, Hashes, Headed, Walked}
 
 -- the ballots before the one with a number are walked, and its record is next
 pub record WalkedTo (s digests before after : List ℕ) (number at : ℕ) : Type 0 where
@@ -60,21 +59,22 @@ module _ (s digests before : List ℕ) {n K : ℕ} (h : Headed s n K) where
           let e : frameFault s (w .k) ≡ refusalNumber why = frame-here (F.Refused why) t [] in
           (w .k, rw (← e) (fault-at (header s .K) (frameFault s) (w .k) below (w .sound) (λ z. omega (arith, positive why))), omega (arith, number-first s (header s) (w .k), w .next), w .entered)
 
-      pub walked-more : BallotFramed s at n number F.Sound → (size : ℕ) → size ≡ ballotLength n (kindAt s at) → (d more : List ℕ) → d ≡ sha256 (part s at size) →
-          more ≡ entered digests d number after → WalkedTo s digests before more (number + 1) (at + size)
-      unfolding BallotFramed Framed firstFault numbersAfter entered recordLength position
-      walked-more t size es d more ed em =
+      pub walked-more : (r : Hashed) → Hashes s at n number r → r .fault ≡ F.Sound → (more : List ℕ) → more ≡ entered digests (r .digest) number after → WalkedTo s digests before more (number + 1) (r .next)
+      unfolding BallotFramed Framed HashedBy firstFault numbersAfter entered recordLength position
+      walked-more r read es more em =
+          let t = rw es at (read .framed) in
+          let d = rw es at (read .hashed) in
           let f = frame-here F.Sound t in
-          let e : size ≡ ballotLength (header s .n) (kind s (header s) (w .k)) = rw (← w .here, ← h .processes) es in
+          let e : ballotLength n (kindAt s at) ≡ ballotLength (header s .n) (kind s (header s) (w .k)) = rw (← w .here, ← h .processes) in
           record {
             k = suc (w .k);
             next = omega (arith, w .next);
             few = below;
-            here = rw (place-record s (header s) 0 (w .k), ← e, ← w .here);
-            fits = rw es (t .0 .0);
+            here = rw (place-record s (header s) 0 (w .k), ← e, ← w .here) (d .0);
+            fits = rw (d .0) (t .0 .0);
             long = rw em (length-table _ _);
             sound = extend (λ j. frameFault s j ≡ 0) (w .k) (w .sound) (rw (le-leb _ _ (f .0 .0), f .0 .1, f .0 .2, f .1));
-            entered = cc (em, ed, e, w .here, w .next, w .entered);
+            entered = cc (em, d .1, e, w .here, w .next, w .entered);
           }
 
     pub walked-all : K + 1 ≤ number → Walked s digests before after Sound

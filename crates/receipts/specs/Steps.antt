@@ -1,17 +1,22 @@
 -- What the functions within rely on, and what they tell.
-use Prim.Native.Nat.{ℕ, zero, suc, _≤_}
+use Prim.Native.Nat.{ℕ, zero, suc, _+_, _≤_}
 use mathlib.Core.Path.{_≡_}
 use mathlib.Core.List.{List}
 use mathlib.Core.Option.{none, some}
-use lib.ListN.{length}
+use lib.ListN.{length, replicate}
 use Rattle.sha256.specs.Message.{sha256}
-use Rattle.rules.specs.Records.{headerLength}
+use Rattle.rules.specs.Bytes.{part}
+use Rattle.rules.specs.Records.{headerLength, kindAt, ballotLength}
 use Rattle.rules.specs.Tests.{faultBelow}
 use Rattle.rules.specs.Header.{header}
 use Rattle.rules.specs.Check.{recordNumber}
 use Rattle.rules.specs.Receipts.{ballotRecord, frameFault}
 use Rattle.rules.specs.Answers.{refusalNumber}
+use Rattle.frames.specs.declared.Fault.{Fault}
+use Rattle.frames.specs.declared.Fault.the-variants as F
+use Rattle.frames.specs.Framed.{BallotFramed}
 use Rattle.digests.specs.Order.{entered}
+use Rattle.receipts.specs.declared.Hashed.{Hashed}
 use Rattle.receipts.specs.declared.Walk.{Walk}
 use Rattle.receipts.specs.declared.Walk.the-variants.{Sound, Refused}
 
@@ -19,6 +24,16 @@ use Rattle.receipts.specs.declared.Walk.the-variants.{Sound, Refused}
 unfoldable pub numbersAfter : (s digests : List ℕ) (k : ℕ) (numbers : List ℕ) → List ℕ
 numbersAfter s digests zero numbers = numbers
 numbersAfter s digests (suc k) numbers = entered digests (sha256 (ballotRecord s k)) (suc k) (numbersAfter s digests k numbers)
+
+-- by the frame of a record at a place: the place after it and its digest; or the same place and zeros
+unfoldable pub HashedBy : (s : List ℕ) (at n : ℕ) → Fault → (next : ℕ) (digest : List ℕ) → Type 0
+HashedBy s at n F.Sound next digest = let size = ballotLength n (kindAt s at) in (next ≡ at + size) × (digest ≡ sha256 (part s at size))
+HashedBy s at n (F.Refused why) next digest = (next ≡ at) × (digest ≡ replicate 32 0)
+
+-- what is read at a place, where a ballot's record with a number is due
+pub record Hashes (s : List ℕ) (at n due : ℕ) (r : Hashed) : Type 0 where
+  pub framed : BallotFramed s at n due (r .fault)
+  pub hashed : HashedBy s at n (r .fault) (r .next) (r .digest)
 
 -- what is known of a board whose header was read: n and K
 pub record Headed (s : List ℕ) (n K : ℕ) : Type 0 where

@@ -6,6 +6,8 @@ use rules::Refusal;
 use statements::claims;
 use statements::claims::Claim;
 use statements::proof::Shape;
+use statements::walks;
+use statements::walks::Walk;
 ghost use mathlib.Core.Path.{_≡_};
 ghost use Prim.Native.Nat.{_+_, _*_, _≤_};
 ghost use lib.ListN.{length};
@@ -99,10 +101,13 @@ fn ballot_fields(board: &[u8], h: Head, at: usize, kind: usize) -> bool
     if !crate::fields_good(board, at + 5, n * n, branches, 1, group.p, group.q) {
         return false;
     }
-    if kind == layout::AUDITED {
-        let shown = at + layout::counted_length(n);
-        return openings::exponents_good(board, shown, n * n, group.q);
+    if kind != layout::AUDITED {
+        return true;
     }
+    let shown = at + layout::counted_length(n);
+    let Walk::To(_) = walks::exponents_fields(board, shown, n * n, group.q) else {
+        return false;
+    };
     true
 }
 

@@ -64,7 +64,7 @@ pub fn read_shift(
     let n = h.n;
     let rows = n - m;
     let group = h.setup.group;
-    let size = layout::shift_length(n, rows);
+    let next = at + layout::shift_length(n, rows);
     let framed = frames::shift_frame(board, at, n, rows, number);
     if let Fault::Refused(why) = framed {
         return Passed::Refused(why);
@@ -76,5 +76,5 @@ pub fn read_shift(
     if !shift_proof(board, h, before, at, m, a - 1) {
         return Passed::Refused(Refusal::Proof);
     }
-    Passed::To(at + size)
+    Passed::To(next)
 }

@@ -5,10 +5,12 @@ use mathlib.Core.Bool.{Bool, true, false}
 use mathlib.Core.List.{List}
 use native.Mathlib.Nat.{add-assoc}
 use native.Mathlib.Omega.{arith}
+use lib.Dec.{ltb}
 use Rattle.numbers.specs.Below.{allBelow}
 use Rattle.numbers.proofs.Tests.{all-none, all-more, all-fails, all-end}
 use Rattle.group.specs.declared.Element.{Element}
 use Rattle.group.specs.declared.Exponent.{Exponent}
+use Rattle.rules.specs.Bytes.{number4}
 use Rattle.fields.specs.declared.ElementField.the-variants as E
 use Rattle.fields.specs.declared.ExponentField.the-variants as X
 use Rattle.fields.specs.Answers.{elementAt, exponentAt}
@@ -53,6 +55,14 @@ module _ (s : List ℕ) (at p q : ℕ) where
         let w = walk-to (pairFields s at p q) (at + 8) n h in
         let v = exponent-value s n q h' in
         rw (w .0, ← w .1, v .0) (ap To (v .1 ∙ rw (w .1) (add-assoc at 8 4)))
+
+-- ---- an exponent as a walk of one field
+module _ (s : List ℕ) (at q : ℕ) where
+  pub exponent-to : {z : Exponent} {n : ℕ} → exponentAt s at q ≡ X.Value z n → walkIf (ltb (number4 s at) q) (at + 4) ≡ To n
+  exponent-to h = let v = exponent-value s at q h in rw (v .0, v .1)
+
+  pub exponent-bad : exponentAt s at q ≡ X.Refused → walkIf (ltb (number4 s at) q) (at + 4) ≡ Refused
+  exponent-bad h = rw (exponent-refused s at q h)
 
 -- ---- blocks that stand at the places spot 0, spot 1, ..: i of them are walked, all good, and place is the next
 pub record Walked (good : ℕ → Bool) (spot : ℕ → ℕ) (i place : ℕ) : Type 0 where

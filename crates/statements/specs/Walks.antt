@@ -21,6 +21,10 @@ pairFields s at p q = isElement p q (number4 s at) && isElement p q (number4 s (
 abbrev pub pairsFields : (s : List ℕ) (at count p q : ℕ) → Bool
 pairsFields s at count p q = allBelow count (λ i. pairFields s (at + 8 * i) p q)
 
+-- exponents one after another
+abbrev pub exponentsFields : (s : List ℕ) (at count q : ℕ) → Bool
+exponentsFields s at count q = allBelow count (λ t. ltb (number4 s (at + 4 * t)) q)
+
 -- the fields of a statement, and of a branch
 abbrev pub statementFields : (s : List ℕ) (at p q : ℕ) → Bool
 statementFields s at p q = pairFields s at p q && ltb (number4 s (at + 8)) q

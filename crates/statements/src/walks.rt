@@ -5,7 +5,7 @@ ghost use mathlib.Core.Path.{_≡_};
 ghost use Prim.Native.Nat.{_+_, _*_, _≤_};
 ghost use lib.ListN.{length};
 ghost use Rattle.rules.specs.Proofs.{proofFields};
-ghost use Rattle.statements.specs.Walks.{walkIf, pairFields, pairsFields, statementFields, branchFields};
+ghost use Rattle.statements.specs.Walks.{walkIf, pairFields, pairsFields, exponentsFields, statementFields, branchFields};
 
 // The place after the fields walked, or that one was refused.
 pub enum Walk {
@@ -35,6 +35,21 @@ pub fn pairs_fields(board: &[u8], at: usize, count: usize, p: u32, q: u32) -> Wa
     let mut place = at;
     for i in 0..count {
         let Walk::To(next) = pair_fields(board, place, p, q) else {
+            return Walk::Refused;
+        };
+        place = next;
+    }
+    Walk::To(place)
+}
+
+// Exponents, one after another.
+pub fn exponents_fields(board: &[u8], at: usize, count: usize, q: u32) -> Walk
+    requires { ⌜ at + 4 * count ≤ length (now board) ⌝ }
+    ensures { λ r. ⌜ r ≡ walkIf (exponentsFields (now (board .entry)) at count q) (at + 4 * count) ⌝ }
+{
+    let mut place = at;
+    for i in 0..count {
+        let ExponentField::Value(_, next) = fields::exponent(board, place, q) else {
             return Walk::Refused;
         };
         place = next;

@@ -14,6 +14,8 @@ use Rattle.count.specs.declared.Ended.{Ended}
 use Rattle.plain.specs.declared.rounds.Measure.{Measure}
 use Rattle.boards.specs.Parts.{boardJob, headGroup, roundBytes}
 use Rattle.boards.specs.declared.Head.{Head}
+use Rattle.writer.specs.declared.Put.{Put}
+use Rattle.writer.specs.declared.Put.the-variants as P
 
 -- the count and the measure of a job
 pub record Measured (job : Job) (e : Ended) (m : Measure) : Type 0 where
@@ -29,7 +31,8 @@ bytesOf head label rankings kinds draws order rounds =
     let job = boardJob head label rankings kinds draws in
     headerBytes sha256 job (headGroup head) ++ concatBelow rounds (roundBytes sha256 job (headGroup head) order)
 
--- the output has room for so many bytes, and they are written; or it has not, and stays as it is
-abbrev pub Put : (size : ℕ) (bytes before after : List ℕ) → Bool → Type 0
-Put size bytes before after true = (size ≤ length before) × (after ≡ written bytes before)
-Put size bytes before after false = (length before < size) × (after ≡ before)
+-- the x of each matrix differ and the output has room for so many bytes, and they are written; or the first of the two is not so, and it stays as it is
+abbrev pub Puts : (different : Bool) (size : ℕ) (bytes before after : List ℕ) → Put → Type 0
+Puts different size bytes before after P.Written = (different ≡ true) × (size ≤ length before) × (after ≡ written bytes before)
+Puts different size bytes before after P.Repeat = (different ≡ false) × (after ≡ before)
+Puts different size bytes before after P.Short = (different ≡ true) × (length before < size) × (after ≡ before)

@@ -23,7 +23,7 @@ ghost use Rattle.statements.specs.Values.{Ready};
 ghost use Rattle.count.specs.State.{listOf, Kept};
 ghost use Rattle.boards.specs.Parts.{boardJob, bytesBefore, Writable, Sheeted};
 ghost use Rattle.validity.specs.Jobs.{jobOf};
-ghost use Rattle.writer.specs.Steps.{bytesOf, Put};
+ghost use Rattle.writer.specs.Steps.{bytesOf, Puts};
 
 fn refused(refusal: Refusal, ranking: usize) -> Written
     ensures { λ r. ⌜ (outcomeOf r ≡ jobRefused (refusalNumber refusal) ranking) × (r .order ≡ replicate 8 0) ⌝ }
@@ -50,14 +50,22 @@ fn board_written(ended: Ended, length: usize) -> Written
     }
 }
 
-// What is to be written: the board's header, the count that has ended, and its measure.
+// What is to be written: the board's header, the count that has ended, its measure, and whether the x of each matrix differ.
 struct Board {
     head: Head,
     count: Count,
     m: Measure,
+    different: bool,
 }
 
-// The board, where the output has room for its length.
+// What putting a board comes to: it is written; a matrix repeats an x; or the output is too short.
+pub enum Put {
+    Written,
+    Repeat,
+    Short,
+}
+
+// The board, where no matrix repeats an x and the output has room for its length.
 fn put_board(
     out: &mut [u8],
     label: &[u8],
@@ -65,17 +73,20 @@ fn put_board(
     kinds: &[u8],
     draws: &[u32],
     b: Board,
-) -> bool
+) -> Put
     requires { ⌜ Ready (b .head .setup) × Writable (boardJob (b .head) (now label) (now rankings) (now kinds) (now draws)) (b .count .gone .order) (b .count .gone .outs + 1) × Sheeted (boardJob (b .head) (now label) (now rankings) (now kinds) (now draws)) (b .count) × (length (now label) ≡ 32) ⌝ }
     requires { ⌜ (headerLength ≤ b .m .length) × (bytesBefore (boardJob (b .head) (now label) (now rankings) (now kinds) (now draws)) (b .count .gone .outs + 1) ≤ b .m .length) ⌝ }
-    ensures { λ r. ⌜ Put (b .m .length) (bytesOf (b .head) (now (label .entry)) (now (rankings .entry)) (now (kinds .entry)) (now (draws .entry)) (b .count .gone .order) (b .count .gone .outs + 1)) (now (out .entry)) (now (out .exit)) r ⌝ }
+    ensures { λ r. ⌜ Puts (b .different) (b .m .length) (bytesOf (b .head) (now (label .entry)) (now (rankings .entry)) (now (kinds .entry)) (now (draws .entry)) (b .count .gone .order) (b .count .gone .outs + 1)) (now (out .entry)) (now (out .exit)) r ⌝ }
 {
-    if out.len() < b.m.length {
-        return false;
+    if b.different {
+        if out.len() < b.m.length {
+            return Put::Short;
+        }
+        let count = b.count;
+        rounds::write_board(out, label, b.head, rankings, kinds, draws, count);
+        return Put::Written;
     }
-    let count = b.count;
-    rounds::write_board(out, label, b.head, rankings, kinds, draws, count);
-    true
+    Put::Repeat
 }
 
 // The board of a job, or why there is none.
@@ -102,9 +113,7 @@ pub fn write(
     if !validity::draws_good(draws, m.needed, job.q) {
         return refused(Refusal::Draws, 0);
     }
-    if !repeats::none_repeats(draws, kinds, job.n, job.k, count.gone.outs + 1) {
-        return refused(Refusal::Repeat, 0);
-    }
+    let different = repeats::none_repeats(draws, kinds, job.n, job.k, count.gone.outs + 1);
     let setup = Setup::new(g);
     let head = Head {
         n: job.n,
@@ -112,9 +121,16 @@ pub fn write(
         counter: job.counter,
         setup,
     };
-    let b = Board { head, count, m };
-    if !put_board(out, label, rankings, kinds, draws, b) {
-        return refused(Refusal::Output, 0);
+    let b = Board {
+        head,
+        count,
+        m,
+        different,
+    };
+    let put = put_board(out, label, rankings, kinds, draws, b);
+    match put {
+        Put::Written => board_written(ended, m.length),
+        Put::Repeat => refused(Refusal::Repeat, 0),
+        Put::Short => refused(Refusal::Output, 0),
     }
-    board_written(ended, m.length)
 }

@@ -1,6 +1,7 @@
 use denote.Ref.{now}
 use Prim.Native.Nat.{ℕ, _+_, _-_}
 use mathlib.Core.Path.{_≡_, refl, sym, _∙_, ap}
+use mathlib.Core.Bool.{false}
 use native.Mathlib.Nat.{sub-zero}
 use native.Mathlib.Omega.{arith}
 use borrow.Author.Needs.{needs}
@@ -16,7 +17,8 @@ use Rattle.round.specs.declared.RoundOutcome.the-variants.{Open, Closed}
 use Rattle.round.specs.Rounds.{Begins}
 use Rattle.round.specs.Outcomes.{RoundComes}
 use Rattle.round.proofs.Beginnings.{begins-first, begins-next}
-use Rattle.checker.proofs.Onward.{one-leaves, sheets-more, sheets-so-far, verdict-of, ends-with, ends, goes-on}
+use Rattle.checker.specs.Counts.{goesOn, stopsFrom}
+use Rattle.checker.proofs.Onward.{one-leaves, sheets-more, verdict-of, ends-with, ends, goes-on, refused-here, open-here, stops-here, stops-later}
 use Rattle.checker.proofs.rounds.Statement.{statement}
 use Rattle.checker.proofs.rounds.Tie as tie
 
@@ -25,6 +27,7 @@ Inv-loop board at head n count₀ place₀ round₀ count place round =
     Begins board head place round × (count .gone .outs ≡ round .m) × Kept count
     × (checkFrom sha256 board (headOf board head) n start 0 0 ≡ checkFrom sha256 board (headOf board head) (n - round .m) (standingOf n count) (round .m) (round .a))
     × (standingOf n count .sheets ≡ table (round .m) (counts board (headOf board head)))
+    × (stopsFrom sha256 board (headOf board head) n start 0 0 ≡ stopsFrom sha256 board (headOf board head) (n - round .m) (standingOf n count) (round .m) (round .a))
 
 abbrev μ-loop : tie.MeasureT-loop
 μ-loop board at head n count₀ place₀ round₀ count place round = n - round .m
@@ -53,6 +56,19 @@ ended c W =
     let H = headOf (now (a .board)) (a .h) in
     ends (now (a .board)) H (checkFrom sha256 (now (a .board)) H (a .h .n) start 0 0) (standingOf (a .h .n) (l .count)) (l .round .m) (l .round .a) (omega (arith, l .inv .0 .early)) (l .inv .3) W
 
+-- the standing count where the check stops, where this round does not go on
+stopped : (c : tie.After-read-round Inv-loop μ-loop) →
+    let a = (entry c) .args in
+    let l = c .before .loop in
+    let H = headOf (now (a .board)) (a .h) in
+    goesOn sha256 (now (a .board)) H (standingOf (a .h .n) (l .count)) (l .round .m) (l .round .a) ≡ false →
+    stopsFrom sha256 (now (a .board)) H (a .h .n) start 0 0 ≡ standingOf (a .h .n) (l .count)
+stopped c =
+    let a = (entry c) .args in
+    let l = c .before .loop in
+    let H = headOf (now (a .board)) (a .h) in
+    stops-here (now (a .board)) H (stopsFrom sha256 (now (a .board)) H (a .h .n) start 0 0) (standingOf (a .h .n) (l .count)) (l .round .m) (l .round .a) (omega (arith, l .inv .0 .early)) (l .inv .5)
+
 loop-holds : tie.Need-loop-holds Inv-loop μ-loop
 unfolding table
 loop-holds c =
@@ -63,6 +79,7 @@ loop-holds c =
       c .before .new .ensures .1,
       rw (sub-zero, c .before .new .ensures .2 (s .args .h .n)),
       rw (c .before .new .ensures .2 (s .args .h .n)),
+      rw (sub-zero, c .before .new .ensures .2 (s .args .h .n)),
     )
 
 returns : tie.Need-returns Inv-loop μ-loop
@@ -73,7 +90,7 @@ returns c =
     let x = ended r _ (t .0) in
     let l = r .before .loop in
     let e = c .refused .ensures in
-    record { verdict = rw (e .0) (sym x); counted = rw (x, e .1, e .2, t .1) (refl, l .inv .2, sheets-so-far _ _ (l .count) (l .round .m) (l .inv .1) (l .inv .4)) }
+    record { verdict = rw (e .0) (sym x); counted = rw (x, e .1, e .2, t .1) (refl, l .inv .2, sym (stopped r (refused-here _ _ _ _ _ _ _ (t .0)))) }
 
 -- the round closes the board
 closes : (c : tie.After-known-told2 Inv-loop μ-loop) → Comes (c .before .before .before) (Closed (c .before .outcome2 .given .0 .0))
@@ -125,6 +142,8 @@ loop-again c =
       goes-on (now (a .board)) H (checkFrom sha256 (now (a .board)) H (a .h .n) start 0 0) (standingOf (a .h .n) (l .count)) (l .round .m)
           (l .round .a) (omega (arith, l .inv .0 .early)) (l .inv .3) (o .0) _ _ (o .9) (o .5),
       sheets-more (now (a .board)) H (l .round .m) (standingOf (a .h .n) (l .count)) _ (l .inv .4) (o .9),
+      stops-later (now (a .board)) H (stopsFrom sha256 (now (a .board)) H (a .h .n) start 0 0) (standingOf (a .h .n) (l .count)) (l .round .m)
+          (l .round .a) (omega (arith, l .inv .0 .early)) (l .inv .5) (open-here (now (a .board)) H _ _ _ (o .0)) _ _ (o .9) (o .5),
     )
 
 pub rounds-spec : {M : Type 1} → statement M

@@ -1,9 +1,9 @@
-use mathlib.Core.Path.{refl}
+use mathlib.Core.Path.{refl, _∙_}
 use denote.Ref.{now}
 use borrow.Author.Needs.{needs}
 use Rattle.header.specs.declared.HeaderRead.the-variants.{Board}
 use Rattle.header.specs.Heads.{HeaderReads}
-use Rattle.checker.proofs.Onward.{no-sheet-yet, known-ranked, counted-is, refused-is}
+use Rattle.checker.proofs.Onward.{known-ranked, counted-is, refused-is, starts-there}
 use Rattle.checker.proofs.verdict.Statement.{statement}
 use Rattle.checker.proofs.verdict.Tie as tie
 
@@ -22,10 +22,11 @@ returns c = let a = c .before .before .before .before .before .args in counted-i
 returns-2 : tie.Need-returns-2
 returns-2 c =
     let s = c .before .before .before .before .before .before in
-    let e = refused-is (s .args .model) (now (s .args .board)) _ (rw (c .before .before .before .read2 .given .1) at (s .pre .1)) in
+    let o = rw (c .before .before .before .read2 .given .1) at (s .pre .1) in
+    let e = refused-is (s .args .model) (now (s .args .board)) _ o in
     let f = c .before .new .ensures in
     let w = c .refused .ensures in
-    record { verdict = rw (w .0) e; counted = rw (← e, w .1, w .2) (refl, f .1, no-sheet-yet _ _ _ (f .0) (f .2 _)) }
+    record { verdict = rw (w .0) e; counted = rw (← e, w .1, w .2) (refl, f .1, f .2 _ ∙ starts-there (s .args .model) (now (s .args .board)) _ o) }
 
 pub verdict-spec : {M : Type 1} → statement M
 verdict-spec =

@@ -9,8 +9,8 @@ use Rattle.receipts.proofs.find_on_board.Statement.{statement}
 use Rattle.receipts.proofs.find_on_board.Tie as tie
 
 -- what the header told, in the case that was met
-told : (c : tie.After-read-header) (r : HeaderRead) → c .read-header .result ≡ r → HeaderReads ranked (now (c .before .before .before .before .before .args .board)) r
-told c r e = rw (c .before .ranked .ensures, e) at (c .read-header .ensures)
+told : (c : tie.After-next-header) (r : HeaderRead) → c .next-header .result ≡ r → HeaderReads ranked (now (c .before .before .before .before .before .args .board)) r
+told c r e = rw (c .before .ranked .ensures, e) at (c .next-header .ensures)
 
 returns : tie.Need-returns
 unfolding HeaderReads

@@ -1,12 +1,10 @@
-use Prim.Native.Nat.{ℕ, _+_, _-_, _≤_}
-use mathlib.Core.Path.{_≡_, sym, ap, _∙_}
+use Prim.Native.Nat.{_-_}
+use mathlib.Core.Path.{sym, ap, _∙_}
 use native.Mathlib.Omega.{arith}
 use lib.ListN.{length}
-use denote.Ref.{now}
 use borrow.Author.Needs.{needs}
-use Rattle.rules.specs.Records.{kindAt, ballotLength}
-use Rattle.frames.specs.declared.Fault.the-variants.{Sound}
-use Rattle.frames.specs.Framed.{Framed, BallotFramed}
+use Rattle.sha256.proofs.Lengths.{digest-long}
+use Rattle.receipts.specs.Steps.{HashedBy}
 use Rattle.receipts.proofs.Walking.{WalkedTo, walked-start, walked-refused, walked-more, walked-all}
 use Rattle.receipts.proofs.walk_ballots.Statement.{statement}
 use Rattle.receipts.proofs.walk_ballots.Tie as tie
@@ -27,34 +25,20 @@ loop-holds c = let s = c .before .before .before in walked-start _ _ _ (s .pre .
 returns : tie.Need-returns Inv-loop μ-loop
 returns c =
     let t = c .before .before .before .before in
-    walked-refused _ _ _ (start t .pre .0) (t .before .loop .inv) (omega arith) _ (rw (c .before .framed .given .1) at (c .before .before .before .ballot-frame .ensures))
+    walked-refused _ _ _ (start t .pre .0) (t .before .loop .inv) (omega arith) _ (rw (c .before .fault .given .1) at (c .before .before .before .next-record .ensures .framed))
 
--- the frame is sound, and the length is that of the record's kind
-framed : (c : tie.After-enum-told Inv-loop μ-loop) →
-    let t = c .before .before .before in
-    let a = start t .args in
-    let l = t .before .loop in
-    BallotFramed (now (a .board)) (l .at) (a .n) (l .number) Sound
-framed c = rw (c .enum-told .given .1) at (c .before .before .ballot-frame .ensures)
-
-sized : (c : tie.After-ballot-length Inv-loop μ-loop) →
-    let t = c .before .before .before .before .before in
-    let a = start t .args in
-    c .ballot-length .result ≡ ballotLength (a .n) (kindAt (now (a .board)) (t .before .loop .at))
-sized c =
-    let a = start (c .before .before .before .before .before) .args in
-    c .ballot-length .ensures .0 ∙ ap (λ (x : ℕ). ballotLength (a .n) x) (c .before .kind .ensures)
-
-digest-of-requires : tie.Need-digest-of-requires Inv-loop μ-loop
-unfolding Framed BallotFramed
-digest-of-requires c κs = omega (arith, sized c, framed (c .before .before) .0 .0)
+-- a digest has 32 bytes
+slice-aggregate-enter : tie.Need-slice-aggregate-enter Inv-loop μ-loop
+unfolding HashedBy
+slice-aggregate-enter c =
+    let d = rw (c .before .before .enum-told .given .1) at (c .before .before .before .before .next-record .ensures .hashed) in sym (ap length (d .1) ∙ digest-long _)
 
 loop-again : tie.Need-loop-again Inv-loop μ-loop
 loop-again c =
     let b = c .before .before .before .before .before .before .before in
-    let t = b .before .before .before .before .before in
-    walked-more _ _ _ (start t .pre .0) (t .before .loop .inv) (omega arith) (framed (b .before .before)) _ (sized b) _ _
-    (c .before .before .before .before .before .before .digest-of .ensures) (c .before .before .enter .ensures ∙ rw (c .before .before .before .before .half .ensures))
+    let t = b .before .before .before in
+    walked-more _ _ _ (start t .pre .0) (t .before .loop .inv) (omega arith) _ (b .before .before .next-record .ensures) (b .enum-told .given .1) _
+    (c .before .before .enter .ensures ∙ rw (c .before .before .before .before .half .ensures))
 
 returns-2 : tie.Need-returns-2 Inv-loop μ-loop
 returns-2 c = walked-all _ _ _ (c .before .before .before .before .before .pre .0) (c .before .loop .inv) (omega arith)
@@ -65,9 +49,7 @@ walk-ballots-spec =
     (tie.spec Inv-loop μ-loop (λ c. omega (arith, c .before .before .before .pre .0 .few)) loop-holds
     (λ c κs. (c .before .loop .inv .fits, start c .pre .0 .small)) (λ c. search needs)
     (λ c. let t = c .before .before .before .before in t .before .loop .inv .long ∙ sym (start t .pre .2)) returns (λ c. search needs)
-    (λ c κs. c .before .before .before .before .loop .inv .fits) (λ c κs. start (c .before .before .before .before) .pre .0 .small) digest-of-requires
-    (λ c. search needs) (λ c κs. let t = c .before .before .before .before .before .before .before in omega (arith, start t .pre .0 .few))
-    (λ c κs. let t = c .before .before .before .before .before .before .before .before .before in (start t .pre .1, t .before .loop .inv .long))
-    (λ c. let b = c .before .before .before .before .before .before .before in let t = b .before .before .before .before .before in omega (arith, t .before .loop .inv .fits, b .ballot-length .ensures .1, start t .good))
+    slice-aggregate-enter (λ c κs. let t = c .before .before .before .before .before in omega (arith, start t .pre .0 .few))
+    (λ c κs. let t = c .before .before .before .before .before .before .before in (start t .pre .1, t .before .loop .inv .long))
     (λ c. omega arith) (λ c. omega arith) loop-again
     (λ c. c .before .loop .inv .long ∙ sym (c .before .before .before .before .before .pre .2)) returns-2)

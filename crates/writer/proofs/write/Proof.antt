@@ -1,6 +1,5 @@
 use Prim.Native.Nat.{ℕ, _+_}
 use mathlib.Core.Path.{_≡_, refl, sym, ap, subst, _∙_}
-use mathlib.Core.Bool.{true}
 use mathlib.Core.List.{List}
 use native.Mathlib.Omega.{arith}
 use borrow.Author.Tests.{not-true, not-false}
@@ -15,7 +14,7 @@ use Rattle.validity.specs.Jobs.{jobOf}
 use Rattle.validity.specs.Tests.{JobTested}
 use Rattle.validity.specs.declared.Tested.{Tested}
 use Rattle.validity.proofs.Tests.{group-positive}
-use Rattle.writer.specs.Steps.{Measured, Put}
+use Rattle.writer.specs.Steps.{Measured, Puts}
 use Rattle.writer.proofs.Outcomes.{measurable, measured, measured-rounds, draws-are, enough, repeats-are, stops-draws, stops-repeat, stops-room, refuses}
 use Rattle.writer.proofs.Boards.{bytesFor, can, sheeted, room, writes}
 use borrow.Author.Needs.{needs}
@@ -52,18 +51,15 @@ draws-told c = draws-are (job (passed (c .before))) _ _ (measured-is (c .before)
 fair : (c : tie.Else1) → Valid sha256 (job (passed (c .before .before)))
 fair c = record { passed = sound (passed (c .before .before)) .0; drawn = sym (draws-told (c .before)) ∙ not-false _ (c .if1 .left) }
 
--- no x repeats
+-- whether an x repeats
 abbrev drawn : tie.After-none-repeats → tie.Else1
 drawn c = c .before .before
 
 repeats-told : (c : tie.After-none-repeats) → c .none-repeats .result ≡ noRepeat (job (passed (drawn c .before .before)))
 repeats-told c = let m = drawn c .before .before in repeats-are (job (passed m)) _ _ (measured-rounds (job (passed m)) (measured-is m)) (c .none-repeats .ensures)
 
-apart : (c : tie.Else2) → noRepeat (job (passed (drawn (c .before) .before .before))) ≡ true
-apart c = sym (repeats-told (c .before)) ∙ not-false _ (c .if2 .left)
-
-group-is : (c : tie.After-new) → parametersOf (c .new .result .group) ≡ groupOf sha256 (job (passed (drawn (c .before .before) .before .before)))
-group-is c = ap parametersOf (c .new .ensures .0) ∙ sound (passed (drawn (c .before .before) .before .before)) .1
+group-is : (c : tie.After-new) → parametersOf (c .new .result .group) ≡ groupOf sha256 (job (passed (drawn (c .before) .before .before)))
+group-is c = ap parametersOf (c .new .ensures .0) ∙ sound (passed (drawn (c .before) .before .before)) .1
 
 returns : tie.Need-returns
 unfolding JobTested
@@ -89,16 +85,10 @@ none-repeats-requires c κs =
       omega (arith, m .measure-of .ensures .0, measured-is m .needed, enough (job t) (fair (c .before) .drawn)),
     )
 
-returns-3 : tie.Need-returns-3
-returns-3 c =
-    let r = c .before .before in
-    let j = job (passed (drawn r .before .before)) in
-    refuses j _ _ (c .refused3 .result) 20 0 (stops-repeat j _ (fair (drawn r)) (sym (repeats-told r) ∙ not-true _ (c .before .if2 .taken))) (c .refused3 .ensures) refl
-
 put-board-requires : tie.Need-put-board-requires
 put-board-requires c κs =
     let n = c .before in
-    let d = drawn (n .before .before) in
+    let d = drawn (n .before) in
     let v = fair d in
     let m = d .before .before in
     let j = job (passed m) in (
@@ -108,35 +98,43 @@ put-board-requires c κs =
 
 -- where the board was to be put
 module _ (c : tie.After-put-board) where
-  abbrev unrepeated : tie.Else2
-  unrepeated = c .before .before .before
+  abbrev compared : tie.After-none-repeats
+  compared = c .before .before .before
 
   abbrev at : tie.After-measure-of
-  at = drawn (unrepeated .before) .before .before
+  at = drawn compared .before .before
 
   abbrev bytes : List ℕ
   bytes =
       let g = at .before .before .before .count .result .count .gone in
       bytesFor (job (passed at)) (parametersOf (c .before .before .new .result .group)) (g .order) (g .outs + 1)
 
+returns-3 : tie.Need-returns-3
+returns-3 c =
+    let p = c .before .before .before .before .before in
+    let w = subst (Puts _ _ (bytes p) _ _) (c .before .enum-told .given .1) (p .put-board .ensures) in
+    writes (job (passed (at p))) (fair (drawn (compared p))) _ _ (measured-is (at p)) _ (group-is (p .before .before)) (sym (repeats-told (compared p)) ∙ w .0) _ _
+    (c .board-written .result) (w .1, w .2) (c .board-written .ensures)
+
 returns-4 : tie.Need-returns-4
 returns-4 c =
-    let p = c .before .before .before .before in
+    let p = c .before .before .before .before .before in
     let j = job (passed (at p)) in
-    let w = subst (Put _ (bytes p) _ _) (not-true (p .put-board .result) (c .before .if3 .taken)) (p .put-board .ensures) in
-    refuses j _ _ (c .refused4 .result) 15 0 (stops-room j _ (fair (drawn (unrepeated p .before))) (apart (unrepeated p)) _ (measured-is (at p) .length) (w .0)) (c .refused4 .ensures) (w .1)
+    let w = subst (Puts _ _ (bytes p) _ _) (c .before .enum-told2 .given .1) (p .put-board .ensures) in
+    refuses j _ _ (c .refused3 .result) 20 0 (stops-repeat j _ (fair (drawn (compared p))) (sym (repeats-told (compared p)) ∙ w .0)) (c .refused3 .ensures) (w .1)
 
 returns-5 : tie.Need-returns-5
 returns-5 c =
-    let p = c .before .before .before .before in
-    let w = subst (Put _ (bytes p) _ _) (not-false (p .put-board .result) (c .before .if3 .left)) (p .put-board .ensures) in
-    writes (job (passed (at p))) (fair (drawn (unrepeated p .before))) _ _ (measured-is (at p)) _ (group-is (p .before .before)) (apart (unrepeated p)) _ _
-    (c .board-written .result) w (c .board-written .ensures)
+    let p = c .before .before .before .before .before in
+    let j = job (passed (at p)) in
+    let w = subst (Puts _ _ (bytes p) _ _) (c .before .enum-told3 .given .1) (p .put-board .ensures) in
+    refuses j _ _ (c .refused4 .result) 15 0 (stops-room j _ (fair (drawn (compared p))) (sym (repeats-told (compared p)) ∙ w .0) _ (measured-is (at p) .length) (w .1)) (c .refused4 .ensures) (w .2)
 
 pub write-spec : {M : Type 1} → statement M
 write-spec = tie.close (tie.spec (λ c κs. search needs) (λ c. search needs) (λ c. search needs) (λ c κs. search needs) returns
     (λ c κs. measurable (job c) (sound c .0)) (λ c. search needs)
     (λ c κs. let t = c .before .before .before in let w = measurable (job t) (sound t .0) in (w .1, omega (arith, c .before .before .count .ensures .2), w .2, w .4))
-    (λ c κs. search needs) (λ c κs. search needs) returns-2 (λ c. search needs) none-repeats-requires (λ c κs. search needs) returns-3
-    (λ c κs. let t = passed (drawn (c .before) .before .before) in group-positive (job t) _ (sound t .1) (sound t .0 .ordered)) put-board-requires (λ c κs. search needs)
-    (λ c. search needs) returns-4 (λ c κs. measured-is (at (c .before .before .before)) .kept) (λ c. search needs) returns-5)
+    (λ c κs. search needs) (λ c κs. search needs) returns-2 (λ c. search needs) none-repeats-requires
+    (λ c κs. let t = passed (drawn c .before .before) in group-positive (job t) _ (sound t .1) (sound t .0 .ordered)) put-board-requires
+    (λ c. search needs) (λ c κs. measured-is (at (c .before .before .before .before)) .kept) (λ c. search needs) (λ c κs. search needs) (λ c. search needs) (λ c κs. search needs)
+    (λ c. search needs) returns-3 (λ c. search needs) returns-4 (λ c. search needs) returns-5)

@@ -1,9 +1,10 @@
+use native.Mathlib.Omega.{arith}
 use borrow.Author.Needs.{needs}
 use Rattle.gooseoften.proofs.answers.put_verdict.Statement.{statement}
 use Rattle.gooseoften.proofs.answers.put_verdict.Tie as tie
 
 code-requires : tie.Need-code-requires
-code-requires c κs = rw (c .before .verdict2 .given .1) at (c .before .before .before .before .pre .1)
+code-requires c κs = omega (arith, rw (c .before .verdict2 .given .1) at (c .before .before .before .before .pre .1))
 
 returns : tie.Need-returns
 returns c = let e = c .before .before .before .before .before .verdict .given .1 in (rw e, rw e (c .before .before .put-result .ensures))

@@ -22,7 +22,8 @@ use Rattle.proving.proofs.branch.commit_branch.Statement.{statement}
 use Rattle.proving.proofs.branch.commit_branch.Tie as tie
 
 abbrev Inv-loop : tie.InvT-loop
-Inv-loop out₀ g page inverses draws group claim statements l known e first k₀ i₀ out k i =
+Inv-loop out₀ g page inverses draws group claim statements l known challenge first k₀ i₀ out k i =
+    let e = challenge .0 in
     let cl = claimOf page (parametersOf (g .group)) claim l in
     let r : ℕ → ℕ = λ i. getD draws (first + i) 0 in
     let t : ℕ → Commitments = λ i. drafted (parametersOf (g .group)) (cl i) known e (r i) in
@@ -31,7 +32,7 @@ Inv-loop out₀ g page inverses draws group claim statements l known e first k�
     × ((m : List ℕ) → Fed k₀ m → Fed k (m ++ branchSaid i cl t))
 
 abbrev μ-loop : tie.MeasureT-loop
-μ-loop out₀ g page inverses draws group claim statements l known e first k₀ i₀ out k i = statements - i
+μ-loop out₀ g page inverses draws group claim statements l known challenge first k₀ i₀ out k i = statements - i
 
 abbrev start : tie.After-struct-known Inv-loop μ-loop → tie.Start Inv-loop μ-loop
 start c = c .before .before .before .before .before .before .before
@@ -68,7 +69,7 @@ loop-again c =
     let f = start (told w) .args in
     let g = parametersOf (f .g .group) in
     let cl = claimOf (now (f .page)) g (f .branch .plan .claim) (f .branch .l) in
-    let e = w .before .before .before .before .before .first-challenge .result in
+    let e = w .before .before .before .before .before .first-challenge .result .0 in
     let known = eqb (f .branch .l) (f .branch .plan .known) in
     let r : ℕ → ℕ = λ i. getD (now (f .draws)) (w .before .before .before .before .after-challenge .result + i) 0 in
     let t : ℕ → Commitments = λ i. drafted g (cl i) known e (r i) in

@@ -13,6 +13,9 @@ use Rattle.records.proofs.BallotTables.{shift-table}
 use Rattle.records.proofs.shift.read_shift.Statement.{statement}
 use Rattle.records.proofs.shift.read_shift.Tie as tie
 
+next-fits : tie.Need-add-next
+next-fits c = let s = c .before .before .before in omega (arith, c .shift-length .ensures .1, s .pre .0 .1, s .good)
+
 -- the frame is sound
 framed : (c : tie.After-enum-told) →
     let a = c .before .before .before .before .before .before .args in Framed (now (a .board)) (a .at) (shiftLength (a .h .n) (a .h .n - a .m)) SH
@@ -55,5 +58,5 @@ returns-4 c =
 pub read-shift-spec : {M : Type 1} → statement M
 read-shift-spec =
     tie.close
-    (tie.spec (λ c. search needs) (λ c κs. search needs) (λ c κs. search needs) (λ c. search needs) returns (λ c. search needs) (λ c. search needs)
-    (λ c. search needs) (λ c. search needs) (λ c. search needs) fields-good-requires returns-2 (λ c. search needs) shift-proof-requires returns-3 (λ c. search needs) returns-4)
+    (tie.spec (λ c. search needs) (λ c κs. search needs) next-fits (λ c κs. search needs) (λ c. search needs) returns (λ c. search needs) (λ c. search needs)
+    (λ c. search needs) (λ c. search needs) (λ c. search needs) fields-good-requires returns-2 (λ c. search needs) shift-proof-requires returns-3 returns-4)

@@ -1,0 +1,3 @@
+-- Laws that the proofs over a reading cite.
+pub mod Frame
+pub mod Held
