@@ -8,8 +8,10 @@
  * ballots' rankings if their matrices open to rankings, and each later one to the one before with a row
  * struck; the proofs on the board vouch for that, and no further than its maker is trusted: the group
  * is below 2^31, so whoever makes a board can forge a proof by about q tries of the hash, minutes on a
- * desk computer, and the board is accepted. Let nobody make boards who is not trusted with the count.
- * Nor is a ranking secret from a computer in such a group.
+ * desk computer, and the board is accepted. Let nobody make boards who is not trusted with the count:
+ * audited ballots catch a ballot that is no ranking where it is among those opened, receipts one that
+ * was exchanged, and neither a forged proof of a later round. Nor is a ranking secret from a computer
+ * in such a group.
  *
  * The caller sees to it that each pointer has as many elements behind it as the length after it
  * says, that answer has its fixed length, that out, found and answer overlap nothing else that is
