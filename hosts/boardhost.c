@@ -2,6 +2,7 @@
  * ballots of receipts or the counts in sentences.
  *
  *   boardhost FILE...                  a verdict for each file
+ *   boardhost --small BOARD...         the same, boards held to 5 processes and 200 ballots (23)
  *   boardhost --digests FILE BOARD...  for each board a line: found, and for each digest of FILE (of
  *                                      32 bytes, one after another) the ballot's number or 0; or the
  *                                      refusal
@@ -97,11 +98,13 @@ static int print_refusal(size_t code)
     return REFUSED;
 }
 
-static int print_verdict(struct bytes board, struct bytes nothing)
+/* An entry to the checker. */
+typedef size_t entry(const uint8_t *board, size_t length, size_t answer[GOOSEOFTEN_CHECK_LENGTH]);
+
+static int print_checked(entry *check, struct bytes board)
 {
     size_t answer[GOOSEOFTEN_CHECK_LENGTH];
-    size_t code = gooseoften_check(board.start, board.length, answer);
-    (void)nothing;
+    size_t code = check(board.start, board.length, answer);
     if (code != 0) {
         return print_refusal(code);
     }
@@ -111,6 +114,18 @@ static int print_verdict(struct bytes board, struct bytes nothing)
     }
     printf("winner %zu\n", answer[GOOSEOFTEN_WINNER]);
     return ANSWERED;
+}
+
+static int print_verdict(struct bytes board, struct bytes nothing)
+{
+    (void)nothing;
+    return print_checked(gooseoften_check, board);
+}
+
+static int print_small(struct bytes board, struct bytes nothing)
+{
+    (void)nothing;
+    return print_checked(gooseoften_check_small, board);
 }
 
 /* Of more digests none is looked up: the list is refused. */
@@ -178,15 +193,20 @@ static int answer_all(int count, char **names, struct question question)
 static int run(int count, char **arguments)
 {
     struct question question = {print_verdict, {NULL, 0}};
-    if (count > 0 && strcmp(arguments[0], "--digests") == 0) {
+    const char *option = count > 0 ? arguments[0] : "";
+    if (strcmp(option, "--small") == 0) {
+        question.print = print_small;
+        return answer_all(count - 1, arguments + 1, question);
+    }
+    if (strcmp(option, "--digests") == 0) {
         question.print = print_found;
-    } else if (count > 0 && strcmp(arguments[0], "--names") == 0) {
+    } else if (strcmp(option, "--names") == 0) {
         question.print = print_text;
     } else {
         return answer_all(count, arguments, question);
     }
     if (count < 2) {
-        fprintf(stderr, "usage: boardhost [--digests FILE | --names FILE] [BOARD...]\n");
+        fprintf(stderr, "usage: boardhost [--small | --digests FILE | --names FILE] [BOARD...]\n");
         return FAILED;
     }
     question.lent = read_named(arguments[1]);

@@ -2,6 +2,7 @@
 //! the ballots of receipts or the counts in sentences.
 //!
 //!     boardhost FILE...                  a verdict for each file
+//!     boardhost --small BOARD...         the same, boards held to 5 processes and 200 ballots (23)
 //!     boardhost --digests FILE BOARD...  for each board a line: found, and for each digest of FILE
 //!                                        (of 32 bytes, one after another) the ballot's number or 0;
 //!                                        or the refusal
@@ -38,6 +39,11 @@ const FAILED: u8 = 2;
 #[link(name = "gooseoften", kind = "static")]
 extern "C" {
     fn gooseoften_check(board: *const u8, board_length: usize, answer: *mut [usize; ANSWER]) -> usize;
+    fn gooseoften_check_small(
+        board: *const u8,
+        board_length: usize,
+        answer: *mut [usize; ANSWER],
+    ) -> usize;
     fn gooseoften_find(
         board: *const u8,
         board_length: usize,
@@ -98,11 +104,14 @@ fn output() -> io::Result<File> {
     standard(io::stdout(), "standard output", &OUTPUT_CLOSED)
 }
 
-/// What is asked of every board, with what is lent for it: the verdict, the ballots of digests, the
-/// text with names.
+/// An entry to the checker.
+type Entry = unsafe extern "C" fn(*const u8, usize, *mut [usize; ANSWER]) -> usize;
+
+/// What is asked of every board, with what is lent for it: the verdict of an entry, the ballots of
+/// digests, the text with names.
 #[derive(Clone, Copy)]
 enum Question<'a> {
-    Verdict,
+    Verdict(Entry),
     Receipts(&'a [u8]),
     Text(&'a [u8]),
 }
@@ -128,10 +137,10 @@ fn answered<T>(code: usize, answer: T) -> Result<T, Refusal> {
 }
 
 /// The verdict on a board. Every slice is allowed: the library asks nothing of the bytes.
-fn check(board: &[u8]) -> Result<Accepted, Refusal> {
+fn check(entry: Entry, board: &[u8]) -> Result<Accepted, Refusal> {
     let mut answer = [0usize; ANSWER];
     // SAFETY: the board is valid for the call, and the answer overlaps nothing else.
-    let code = unsafe { gooseoften_check(board.as_ptr(), board.len(), &mut answer) };
+    let code = unsafe { entry(board.as_ptr(), board.len(), &mut answer) };
     answered(code, ()).map(|()| Accepted {
         order: answer[2..1 + answer[0]].to_vec(),
         winner: answer[1],
@@ -215,7 +224,9 @@ fn answer(name: Option<&OsStr>, question: Question, out: &mut impl Write) -> io:
         return Ok(FAILED);
     };
     let result = match question {
-        Question::Verdict => check(&board).map(|accepted| print_accepted(&accepted, out)),
+        Question::Verdict(entry) => {
+            check(entry, &board).map(|accepted| print_accepted(&accepted, out))
+        }
         Question::Receipts(digests) => find(&board, digests).map(|found| print_found(&found, out)),
         Question::Text(names) => text(&board, names).map(|text| out.write_all(&text)),
     };
@@ -243,12 +254,15 @@ fn answer_all(names: &[OsString], question: Question, out: &mut impl Write) -> i
 fn run(arguments: &[OsString]) -> io::Result<u8> {
     let out = &mut BufWriter::new(output()?);
     let receipts = match arguments.first().and_then(|first| first.to_str()) {
+        Some("--small") => {
+            return answer_all(&arguments[1..], Question::Verdict(gooseoften_check_small), out);
+        }
         Some("--digests") => true,
         Some("--names") => false,
-        _ => return answer_all(arguments, Question::Verdict, out),
+        _ => return answer_all(arguments, Question::Verdict(gooseoften_check), out),
     };
     let [_, file, boards @ ..] = arguments else {
-        say("usage: boardhost [--digests FILE | --names FILE] [BOARD...]");
+        say("usage: boardhost [--small | --digests FILE | --names FILE] [BOARD...]");
         return Ok(FAILED);
     };
     match read(Some(file)) {

@@ -1,7 +1,7 @@
 /* Gooseoften: checks and writes ranked-ballot boards, finds receipts on them, and tells their counts in
  * sentences. Link with libgooseoften.a.
  *
- * The four functions take any bytes and any numbers, keep nothing between calls, allocate nothing,
+ * The five functions take any bytes and any numbers, keep nothing between calls, allocate nothing,
  * and read and write only what is lent. What they return and write is proved.
  *
  * What an accepted board promises: every rule holds on it. Its result is the plain count of its counted
@@ -52,8 +52,10 @@ enum gooseoften_refusal {
     GOOSEOFTEN_OPENING = 18,      /* an audited ballot does not open to what it shows */
     GOOSEOFTEN_NONE_COUNTED = 19, /* no ballot is counted */
     GOOSEOFTEN_REPEAT = 20,       /* of a job: two x of a matrix are equal */
-    GOOSEOFTEN_NAMES = 21         /* the names are not one of 1 to 20 letters a process, each with a
+    GOOSEOFTEN_NAMES = 21,        /* the names are not one of 1 to 20 letters a process, each with a
                                      line feed after it, all different */
+    GOOSEOFTEN_LIMITS = 23        /* of gooseoften_check_small: n is above 5 or K above 200, both in
+                                     range */
 };
 
 static inline size_t gooseoften_refusal_number(size_t code)
@@ -83,6 +85,14 @@ enum gooseoften_answer {
  * proof's message: that it was not turned is told by the receipt alone. */
 size_t gooseoften_check(const uint8_t *board, size_t board_length,
                         size_t answer[GOOSEOFTEN_CHECK_LENGTH]);
+
+/* The verdict for the screen in the council room, which shows five names and stores 200 ballots'
+ * lines. A header of more than 5 processes or more than 200 ballots, audited ones included, is
+ * refused (23, record 0): after the header's length and mark and the ranges of n and K (1 to 3),
+ * ahead of its group and generators (4 and 5) and of all that stands behind it. On every other board
+ * what is returned and written is what gooseoften_check returns and writes. */
+size_t gooseoften_check_small(const uint8_t *board, size_t board_length,
+                              size_t answer[GOOSEOFTEN_CHECK_LENGTH]);
 
 /* Writes the board of a job to the front of out, or refuses and leaves out and answer as they were.
  * Rankings: a byte a place, one ranking after another, of every ballot. Kinds: a byte a ballot, 0

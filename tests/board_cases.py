@@ -8,6 +8,7 @@ import boardref as ref
 import gen
 import message_cases
 import mutate
+import small_cases
 from boardref import be
 from covered import BIG, BOARDS, PLACED, PLACES, Cases, Pool, place
 from elections import WORKED
@@ -218,7 +219,8 @@ def sound(cases, rng):
         base = Base(rng, 'sound.n%d.k%d.q%d' % (n, len(lists), q), n, lists,
                     (p, q, g0 or gen.elements_g0(rng, p, q)))
         cases.add('%s.rounds%d' % (base.name, base.rounds), base.board, base.accepted, 'sound',
-                  *['ties'] * (base.rounds > 1), *['repeats'] * (q - 1 < n * n))
+                  *['ties'] * (base.rounds > 1), *['repeats'] * (q - 1 < n * n),
+                  *['small.sound'] * (n > 4))
 
 
 def repeats(cases, rng):
@@ -229,7 +231,8 @@ def repeats(cases, rng):
 
 def large(cases, rng):
     base = Base(rng, 'thousand', 2, [[1, 2] if k % 2 else [2, 1] for k in range(1000)], HOUSE)
-    cases.add('thousand', base.board, ('accepted', 1, [], 1), 'K1000', 'hand.K', 'ties')
+    cases.add('thousand', base.board, ('accepted', 1, [], 1), 'K1000', 'hand.K', 'ties',
+              'small.sound')
     for k in (1, 2):                                 # the low byte is the one due
         number, cut = base.starts[k] + 2, base.starts[k + 1]
         cases.add('thousand.ba%d.number=%d' % (k, 256 + k),
@@ -239,7 +242,7 @@ def large(cases, rng):
     base = Base(rng, 'eight', 8, [list(range(1, 9)), list(range(8, 0, -1))], HOUSE)
     assert base.rounds == 7
     last, sheet = len(base.starts) - 2, base.starts[-2]
-    cases.add('eight', base.board, base.accepted, 'n8', 'hand.n', 'sound', 'ties')
+    cases.add('eight', base.board, base.accepted, 'n8', 'hand.n', 'sound', 'ties', 'small.sound')
     cases.add('eight.cut.one-byte', base.board[:-1], ('refused', 1, last), 'n8', '1 last')
     cases.add('eight.rt%d.out=3' % last, base.board[:sheet + 3] + b'\3' + base.board[sheet + 4:],
               ('refused', 11, last), 'n8', '11 last')
@@ -379,4 +382,5 @@ def boards():
     sound(cases, rng)
     large(cases, rng)
     repeats(cases, random.Random(5))
+    small_cases.boards(cases, random.Random(12))
     return cases

@@ -7,6 +7,7 @@ import boardref as ref
 BIG = 2 ** 32 - 1
 Case = collections.namedtuple('Case', 'name case expect covers')     # a case filed
 Made = collections.namedtuple('Made', 'name board expect note')      # a board that faults made
+Both = collections.namedtuple('Both', 'check small')                 # the answers of both entries
 PLACES = ('first', 'middle', 'last')
 
 # what decides between equal counts of round m: see elections.py
@@ -84,6 +85,18 @@ BOARDS = {
     'sound': 'sound boards of 2 to 8 processes',
     'K1000': 'K = 1,000 with n = 2',
     'n8': 'n = 8 in 7 rounds',
+    'small.within': 'both entries alike: n within 5 and K within 200, nothing wrong up to 3',
+    'small.n': 'second entry, 23: n above 5, K within 200',
+    'small.K': 'second entry, 23: K above 200, n within 5, K = 256, 257 and 456 among them',
+    'small.both': 'second entry, 23: n above 5 and K above 200',
+    'small.1': 'both entries, 1: the header cut, on both sides of the limits',
+    'small.2': 'both entries, 2: the mark of the header, on both sides of the limits',
+    'small.3': 'both entries, 3: n or K out of range, the other on both sides of its limit',
+    'small.4': 'a rule on p and q broken, on both sides of the limits: 23 before 4',
+    'small.5': 'a rule on g0 or g1 broken, on both sides of the limits: 23 before 5',
+    'small.ballot': 'the first ballot sound, cut or with a fault, on both sides of the limits',
+    'small.several': 'a fault before 23 and one after it, on both sides of the limits',
+    'small.sound': 'whole boards on both sides of the limits, K = 200 and 201 among them',
 }
 
 JOBS = {

@@ -15,7 +15,7 @@ import gen
 SOUND = path('crates', 'boardcheck', 'stdin')                # the sample board
 NAMES = b'Skyr\nQuark\nFeta\n'                               # of its processes
 UNREAD = 'boardhost: cannot read %s\n'
-USAGE = 'usage: boardhost [--digests FILE | --names FILE] [BOARD...]\n'
+USAGE = 'usage: boardhost [--small | --digests FILE | --names FILE] [BOARD...]\n'
 
 
 def run_host(program, *names, **more):
@@ -39,7 +39,7 @@ def due_of(answer):
 # ------------------------------------------------------------------ verdicts
 
 def large_boards():
-    """(board, the reference's verdict): sound boards beyond boardcheck's limit, and damaged ones."""
+    """Sound boards beyond boardcheck's limit, and damaged ones, with the reference's verdicts."""
     rng = random.Random(65537)
     boards = []
     p, q, g0 = gen.HOUSE
@@ -54,23 +54,24 @@ def large_boards():
         for _ in range(12):
             at = rng.randrange(54, len(board))
             boards.append(board[:at] + bytes([board[at] ^ 1 << rng.randrange(8)]) + board[at + 1:])
-    return [(board, ref.answer_text(ref.check(board))) for board in boards]
+    return [stored.Board('', board, ref.answer_text(ref.check(board)),
+                         ref.answer_text(ref.check_small(board))) for board in boards]
 
 
-def verdicts(program, boards, folder):
+def verdicts(program, option, boards, folder):
     """What a host does with each board, lent from a file of its own."""
-    return [run_host(program, put(folder, 'board', board)) for board in boards]
+    return [run_host(program, *option, put(folder, 'board', board.bytes)) for board in boards]
 
 
-def unreadable(program):
+def unreadable(program, option):
     """What a host does with files of which some cannot be read, and with no file at all."""
     folder, missing = path('tests'), path('tests', 'no_such_board')
     with open(SOUND, 'rb') as board, open('/dev/null') as nothing:
-        return [run_host(program, missing), run_host(program, missing, SOUND, folder, SOUND),
-                run_host(program, SOUND, '/dev/null'), run_host(program, stdin=board),
-                run_host(program, stdin=nothing), redirected(program, '<&-'),
-                redirected(program, '0>/dev/null'),
-                run_host(program, b'no such board \xff', SOUND)[::2]]
+        return [run_host(program, *option, *names, stdin=stdin) for names, stdin in (
+            ((missing,), None), ((missing, SOUND, folder, SOUND), None), ((SOUND, '/dev/null'), None),
+            ((), board), ((), nothing))] + [
+                redirected(program, '<&-', *option), redirected(program, '0>/dev/null', *option),
+                run_host(program, *option, b'no such board \xff', SOUND)[::2]]
 
 
 def unreadable_due():
@@ -167,9 +168,9 @@ def redirected(program, how, *names):
 
 
 def compare_untaken(comparison, name, program, folder):
-    """Verdict, receipts and text of an accepted board, of a refused one and of both; and standard error
-    that takes nothing either."""
-    lent = ((), ('--digests', put(folder, 'digests', sample_digests())),
+    """Both verdicts, receipts and text of an accepted board, of a refused one and of both; and standard
+    error that takes nothing either."""
+    lent = ((), ('--small',), ('--digests', put(folder, 'digests', sample_digests())),
             ('--names', put(folder, 'names', NAMES)))
     asked = [(*question, *boards) for question in lent
              for boards in ((SOUND,), ('/dev/null',), (SOUND, '/dev/null'))]
@@ -202,16 +203,20 @@ def compare_lent(comparison, name, program, folder):
                        [due_of(text)])
 
 
-def compare_hosts(comparison, hosts, folder):
-    boards, large = stored.boards(), large_boards()
-    for name, program in hosts:
-        comparison.compare(name + ', stored boards',
-                           verdicts(program, [board.bytes for board in boards], folder),
-                           [due_of(board.verdict) for board in boards])
-        comparison.compare(name + ', boards beyond 65,536 bytes',
-                           verdicts(program, [board for board, _ in large], folder),
-                           [due_of(text) for _, text in large])
-        comparison.compare(name + ', files that cannot be read', unreadable(program),
+def compare_verdicts(comparison, name, program, boards, folder):
+    """Both entries to the checker; boards: what they are, and the boards."""
+    for option, field in ((), 'verdict'), (('--small',), 'small'):
+        words = ' '.join((name, *option))
+        for what, some in boards:
+            comparison.compare('%s, %s' % (words, what), verdicts(program, option, some, folder),
+                               [due_of(getattr(board, field)) for board in some])
+        comparison.compare(words + ', files that cannot be read', unreadable(program, option),
                            unreadable_due())
+
+
+def compare_hosts(comparison, hosts, folder):
+    boards = (('stored boards', stored.boards()), ('boards beyond 65,536 bytes', large_boards()))
+    for name, program in hosts:
+        compare_verdicts(comparison, name, program, boards, folder)
         compare_lent(comparison, name, program, folder)
         compare_untaken(comparison, name, program, folder)

@@ -23,7 +23,7 @@ import sys
 from stored import Comparison, content, path
 
 ARCHIVE = path('target', 'staticlib', 'libgooseoften.a')
-OTHERS = (13, 14, 15, 16, 20, 21)                            # refusals of no check
+OTHERS = (13, 14, 15, 16, 20, 21, 23)                        # not of gooseoften_check
 NUMBERS = {'u8': ('uint8_t', ctypes.c_uint8), 'u16': ('uint16_t', ctypes.c_uint16),
            'u32': ('uint32_t', ctypes.c_uint32), 'usize': ('size_t', ctypes.c_size_t)}
 

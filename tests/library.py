@@ -6,13 +6,14 @@
 It builds libgooseoften.a (`rt staticlib gooseoften`) and the hosts in C and in Rust, and compares:
 
   - the verdicts of both hosts on the stored boards of crates/cases with the stored ones, which the
-    reference made;
-  - their verdicts on boards beyond 65,536 bytes, sound and damaged, with the reference's;
+    reference made, by both entries to the checker;
+  - their verdicts on boards beyond 65,536 bytes, sound and damaged, with the reference's, likewise;
   - what both do with files that cannot be read and with output that takes nothing, and with which
     status they end;
   - what both print of the digests of a file, for the stored finds of crates/find_cases, and with the
     names of a file, for the stored texts of crates/text_cases;
   - the text that both print for README's example with the one that README shows;
+  - gooseoften_check and gooseoften_check_small on the stored boards with the stored verdicts;
   - gooseoften_write on the stored jobs of crates/job_cases with the stored replies;
   - gooseoften_find on the stored finds of crates/find_cases with the stored replies;
   - gooseoften_text on the stored texts of crates/text_cases with the stored replies;
@@ -85,6 +86,19 @@ def load_library(folder):
 def lent(kind, values):
     """An array of C, and how many elements it has; null where it has none."""
     return ((kind * len(values))(*values), len(values)) if values else (None, 0)
+
+
+def verdict(check, board):
+    """What boardcheck would print of a board, by an entry to the checker, and whether the rest of the
+    answer is as due: as it was where the board is refused, else zeros behind the order."""
+    answer = (ctypes.c_size_t * 10)(*[99] * 10)
+    code = check(*lent(ctypes.c_uint8, list(board)), answer)
+    if code:
+        return 'refused %d %d\n' % (code % 256, code // 256), list(answer) == [99] * 10
+    rounds, winner, order = answer[0], answer[1], answer[2:]
+    lines = ['accepted', 'rounds %d' % rounds, *['out %d' % process for process in order[:rounds - 1]],
+             'winner %d' % winner]
+    return '\n'.join(lines) + '\n', not any(order[rounds - 1:])
 
 
 def write(library, job, out, answer):
@@ -185,16 +199,19 @@ def nulls(library, job):
         answer = (ctypes.c_size_t * 11)(*[7] * 11)
         out = lent(ctypes.c_uint8, [0] * poor.room)[0]
         seen.append((write(library, poor, out, answer), list(answer) == [7] * 11))
-    answer = (ctypes.c_size_t * 10)(*[7] * 10)
-    return seen + [(library.gooseoften_check(None, 0, answer), list(answer) == [7] * 10)]
+    for check in (library.gooseoften_check, library.gooseoften_check_small):
+        answer = (ctypes.c_size_t * 10)(*[7] * 10)
+        seen.append((check(None, 0, answer), list(answer) == [7] * 10))
+    return seen
 
 
 def stack(folder):
-    """Whether each call takes no more stack than README names."""
+    """Whether each call takes no more stack than README names: a check by either entry alike."""
     readme = stored.content('README.md').decode()
     most = [int(x.replace(',', '')) for x in re.search(
         r'at most ([\d,]+) bytes of stack for a check, ([\d,]+) for finding receipts, ([\d,]+) for a '
         r'text and ([\d,]+) for a board written', readme).groups()]
+    most.insert(1, most[0])
     # memcpy is looked up before the first call: the dynamic linker's stack is none of the library's
     program = compile_c(('tests', 'stack.c'), os.path.join(folder, 'stack'), '-Wl,-z,now')
     longest = max(stored.finds(), key=lambda case: len(case.board))
@@ -206,7 +223,13 @@ def stack(folder):
 
 
 def compare_functions(comparison, library):
-    jobs, finds, texts = stored.jobs(), stored.finds(), stored.texts()
+    boards, jobs, finds, texts = stored.boards(), stored.jobs(), stored.finds(), stored.texts()
+    comparison.compare('gooseoften_check, stored boards',
+                       [verdict(library.gooseoften_check, board.bytes) for board in boards],
+                       [(board.verdict, True) for board in boards])
+    comparison.compare('gooseoften_check_small, stored boards',
+                       [verdict(library.gooseoften_check_small, board.bytes) for board in boards],
+                       [(board.small, True) for board in boards])
     comparison.compare('gooseoften_write, stored jobs', [reply(library, job) for job in jobs],
                        stored.content('crates', 'job_cases', 'stdout').decode().splitlines())
     comparison.compare('gooseoften_find, stored finds', [found_by(library, case) for case in finds],
@@ -216,8 +239,8 @@ def compare_functions(comparison, library):
     sound = next(job for job in jobs if job.name == 'two')
     comparison.compare('null pointers of length 0', nulls(library, sound),
                        [(5, True), (13, True), (17, True), (14, True), (15, True), (13, True),
-                        (5, True), (1, True)])
-    board = next(board.bytes for board in stored.boards() if board.name == 'two')
+                        (5, True), (1, True), (1, True)])
+    board = next(board.bytes for board in boards if board.name == 'two')
     comparison.compare('null pointers of length 0, receipts', null_finds(library, board),
                        [(1, True), (0, True), (15, True), (0, True), (1, True)])
     comparison.compare('null pointers of length 0, texts', null_texts(library, board),
@@ -232,7 +255,7 @@ def main(arguments):
         compare_hosts(comparison, build_hosts(folder, arguments), folder)
         if '--without-c' not in arguments:
             compare_functions(comparison, load_library(folder))
-            comparison.compare('stack of a call', stack(folder), [True] * 4)
+            comparison.compare('stack of a call', stack(folder), [True] * 5)
     return comparison.status()
 
 

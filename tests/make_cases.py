@@ -21,14 +21,16 @@ piece is its length, a number, and then its bytes.
 
 The program prints a line for each frame, of a text with the text behind it:
 
-  NAME accepted rounds R out A out B winner W            as boardcheck prints it, on one line
-  NAME refused NUMBER RECORD
+  NAME VERDICT; small VERDICT                            of the two entries to the checker
   NAME written LENGTH SHA256 rounds R out A winner W, rest unchanged
   NAME refused NUMBER WHICH, output unchanged
   NAME found A B C, rest unchanged                       a number or 0 for each digest
   NAME refused NUMBER RECORD, list unchanged
   NAME text LENGTH, rest unchanged
   NAME refused NUMBER RECORD, output unchanged           of a text
+
+A verdict is as boardcheck prints it, on one line: `accepted rounds R out A out B winner W`, or
+`refused NUMBER RECORD`.
 
 Before a job, byte i of the program's output buffer is i modulo 251; before a lookup, each of its 512
 numbers is 65535, before a text each of its 2,048 bytes is 255, and the first of them are lent.  The
@@ -47,6 +49,8 @@ import text_boards
 import text_cases
 import walks
 from boardref import be
+from covered import Both
+from selftests.limits import second_answer
 
 
 def piece(data):
@@ -57,12 +61,21 @@ def outcome(rounds, outs, winner):
     return ' '.join(['rounds %d' % rounds] + ['out %d' % a for a in outs] + ['winner %d' % winner])
 
 
+def verdict(answer):
+    if answer[0] == 'refused':
+        return 'refused %d %d' % answer[1:]
+    return 'accepted ' + outcome(*answer[1:])
+
+
 def board_case(name, board, expect):
-    answer = ref.check(board)
-    assert expect is None or answer == expect, (name, expect, answer)
-    line = 'refused %d %d' % answer[1:] if answer[0] == 'refused' else (
-        'accepted ' + outcome(*answer[1:]))
-    return piece(name.encode()) + piece(board), '%s %s\n' % (name, line)
+    """expect: of both entries, or of the first alone."""
+    answers = Both(ref.check(board), ref.check_small(board))
+    known = expect if isinstance(expect, Both) else Both(expect, None)
+    for answer, due in zip(answers, known):
+        assert due is None or answer == due, (name, expect, answers)
+    assert answers.small == second_answer(board, answers.check), (name, answers)
+    return piece(name.encode()) + piece(board), '%s %s; small %s\n' % (
+        name, verdict(answers.check), verdict(answers.small))
 
 
 def job_case(name, job, expect):

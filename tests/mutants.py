@@ -1,8 +1,9 @@
 #!/usr/bin/env python3
 """mutants.py - are the stored cases of the test programs `cases`, `find_cases`, `text_cases` and
 `job_cases` sharp enough?  The mutants of a challenge's message are in message_mutants.py, of audited
-ballots in audit_mutants.py, of draws that repeat in repeat_mutants.py, of the walk for receipts in
-find_mutants.py, of the text in text_mutants.py.
+ballots in audit_mutants.py, of draws that repeat in repeat_mutants.py, of the second entry to the
+checker in small_mutants.py, of the walk for receipts in find_mutants.py, of the text in
+text_mutants.py.
 
   python3 tests/mutants.py
 
@@ -22,6 +23,7 @@ import audit_mutants
 import find_mutants
 import message_mutants
 import repeat_mutants
+import small_mutants
 import text_mutants
 
 # the modules of the reference, each after those that it imports
@@ -214,13 +216,24 @@ def load(texts):
     return module
 
 
+def checks(function):
+    return [Question(board.name, function, (board.bytes,)) for board in stored.boards()]
+
+
 def boards():
-    return [Question(board.name, 'check', (board.bytes,)) for board in stored.boards()]
+    """The boards not made for the screen's limits: they tell all other rules apart."""
+    return [question for question in checks('check') if not question.case.startswith('limits.')]
 
 
 def others():
-    """The boards not made for the message of a challenge, which tell no other rule apart."""
+    """Those not made for the message of a challenge either, which tell no other rule apart."""
     return [question for question in boards() if not question.case.startswith(('message-', 'moved'))]
+
+
+def entries():
+    """The boards made for those limits, and sound ones, asked of both entries."""
+    return [question for question in checks('check') + checks('check_small')
+            if question.case.startswith(('limits.', 'sound.'))]
 
 
 def audits():
@@ -332,16 +345,19 @@ def main():
                                        for kind, mutants in message_mutants.BESIDE.items()],
                                      ('checkers, audits', audit_mutants.CHECKERS, audits()),
                                      ('checkers, repeats', repeat_mutants.CHECKERS, others()),
+                                     ('checkers, limits', small_mutants.CHECKERS, entries()),
                                      ('writers, messages', message_mutants.WRITERS, jobs()),
                                      ('writers, audits', audit_mutants.WRITERS, jobs()),
                                      ('writers, repeats', repeat_mutants.WRITERS, repeats()),
                                      ('finders', find_mutants.FINDERS, finds()),
                                      ('finders, audits', audit_mutants.FINDERS, finds()),
+                                     ('finders, limits', small_mutants.FINDERS, finds()),
                                      ('tellers, names', text_mutants.NAMES, names()),
                                      ('tellers, counts', text_mutants.COUNTS, counts()),
                                      ('tellers, sentences', text_mutants.SENTENCES, told()),
                                      ('tellers, orders', text_mutants.ORDERS, all_texts()),
-                                     ('tellers, boards', text_mutants.BOARDS, told())):
+                                     ('tellers, boards', text_mutants.BOARDS, told()),
+                                     ('tellers, limits', small_mutants.TELLERS, told())):
         some = survivors(texts, mutants, questions, right)
         print('%s: %d mutants, %d survive' % (what, len(mutants), len(some)))
         left += some

@@ -4,8 +4,8 @@
  *   stack BOARD DIGESTS
  *
  * It writes a board of 8 processes in 7 rounds, of three ballots one audited, checks it, tells its
- * count with names of 20 letters, finds the digests of a file on the board of another, and prints the
- * bytes of each call. */
+ * count with names of 20 letters, finds the digests of a file on the board of another, checks a
+ * board of 5 processes in 4 rounds by the second entry, and prints the bytes of each call. */
 #define _GNU_SOURCE
 #include <stdbool.h>
 #include <stdio.h>
@@ -16,10 +16,11 @@
 #include "gooseoften.h"
 
 enum { ROOM = 1 << 20, FILL = 0xa5, N = 8, K = 3, DRAWS = 10000, BOARD = 1 << 18, DIGESTS = 500 };
+enum { SMALL = 5 }; /* the most processes of the screen */
 enum { NAME = 21 }; /* 20 letters and a line feed */
 
 static uint8_t board[BOARD], digests[DIGESTS * 32], text[GOOSEOFTEN_TEXT_MOST];
-static size_t length, digests_length, code;
+static size_t processes, length, digests_length, code;
 static uint16_t found[DIGESTS];
 static size_t answer[GOOSEOFTEN_WRITE_LENGTH];
 static ucontext_t caller, callee;
@@ -27,6 +28,11 @@ static ucontext_t caller, callee;
 static void check(void)
 {
     code = gooseoften_check(board, length, answer);
+}
+
+static void check_small(void)
+{
+    code = gooseoften_check_small(board, length, answer);
 }
 
 static void find(void)
@@ -49,17 +55,18 @@ static void write_board(void)
     static uint8_t rankings[N * K], kinds[K] = {0, 0, 1}; /* the last is audited */
     static uint32_t draws[DRAWS];
     const char *label = "Gooseoften, stack of one call   ";
-    for (size_t i = 0; i < N * K; i++) {
-        rankings[i] = (uint8_t)(1 + i % N);
+    for (size_t i = 0; i < processes * K; i++) {
+        rankings[i] = (uint8_t)(1 + i % processes);
     }
-    rankings[N] = 2; /* the second ballot ranks 2, 1, 3 and so on: nobody gets more than half */
-    rankings[N + 1] = 1;
+    /* the second ballot ranks 2, 1, 3 and so on: nobody gets more than half */
+    rankings[processes] = 2;
+    rankings[processes + 1] = 1;
     for (size_t i = 0; i < DRAWS; i++) {
         draws[i] = (uint32_t)(1 + i); /* no two are equal */
     }
-    code = gooseoften_write(N, K, 2147483579, 1073741789, 4, 0, (const uint8_t *)label, 32, rankings,
-                            sizeof rankings, kinds, sizeof kinds, draws, DRAWS, board, sizeof board,
-                            answer);
+    code = gooseoften_write(processes, K, 2147483579, 1073741789, 4, 0, (const uint8_t *)label, 32,
+                            rankings, processes * K, kinds, sizeof kinds, draws, DRAWS, board,
+                            sizeof board, answer);
     length = answer[GOOSEOFTEN_BOARD_LENGTH];
 }
 
@@ -113,6 +120,7 @@ int main(int count, char **names)
         fputs("usage: stack BOARD DIGESTS\n", stderr);
         return 2;
     }
+    processes = N;
     size_t writes = stack_of(write_board);
     see("the board was not written", code == 0 && answer[GOOSEOFTEN_ROUNDS] == N - 1);
     size_t checks = stack_of(check);
@@ -123,6 +131,11 @@ int main(int count, char **names)
     digests_length = read_file(names[2], digests, sizeof digests);
     size_t finds = stack_of(find);
     see("the board was not walked", code == 0);
-    printf("check %zu find %zu text %zu write %zu\n", checks, finds, texts, writes);
+    processes = SMALL;
+    write_board();
+    see("the small board was not written", code == 0 && answer[GOOSEOFTEN_ROUNDS] == SMALL - 1);
+    size_t small = stack_of(check_small);
+    see("the small board was not accepted", code == 0);
+    printf("check %zu small %zu find %zu text %zu write %zu\n", checks, small, finds, texts, writes);
     return 0;
 }

@@ -12,7 +12,7 @@ sys.path[:0] = [HERE, os.path.join(HERE, 'reference')]
 
 LIMIT = 65536                                                # of boardcheck's boards
 
-Board = collections.namedtuple('Board', 'name bytes verdict')
+Board = collections.namedtuple('Board', 'name bytes verdict small')
 Job = collections.namedtuple('Job', 'name n K p q g0 counter room label rankings kinds draws')
 Find = collections.namedtuple('Find', 'name board digests room line')
 Text = collections.namedtuple('Text', 'name board names room due')
@@ -59,13 +59,14 @@ def as_lines(words):
 
 
 def boards():
-    """Each stored board, with the verdict as boardcheck prints it."""
+    """Each stored board, with the verdicts of both entries as boardcheck prints them."""
     frames = Frames(content('crates', 'cases', 'stdin'))
     stored = []
     for line in content('crates', 'cases', 'stdout').decode().splitlines():
         name, words = line.split(' ', 1)
         assert frames.piece().decode() == name, name
-        stored.append(Board(name, frames.piece(), as_lines(words)))
+        verdict, small = words.split('; small ')
+        stored.append(Board(name, frames.piece(), as_lines(verdict), as_lines(small)))
     assert not frames.more()
     return stored
 

@@ -4,6 +4,7 @@
  *   plain               the board of standard input: its verdict as boardcheck prints it
  *   plain FILE...       the same for each of these boards
  *   plain --cases       the stored boards of crates/cases/stdin: a line for each, as `cases` prints
+ *                       it, without the second verdict
  *
  * It has no limit of 65,536 bytes.
  */

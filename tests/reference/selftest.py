@@ -2,15 +2,15 @@
 """selftest.py [jobs] [seed]  - asserts 01's hand-tried cases and elections with equal counts worked
 by hand, thousands of random elections and jobs, every refusal number, what the proof claims mean (by
 brute-force logarithms in p = 23), the messages of challenges by hand and in a second way, audited
-ballots by hand and in a second way, x that a matrix uses twice by hand and in a second way, receipts
-that are found in a second way, and counts in sentences by hand and read back.  The folder selftests
-has them, by subject."""
+ballots by hand and in a second way, x that a matrix uses twice by hand and in a second way, the two
+entries to the checker on headers with every set of faults, receipts that are found in a second way,
+and counts in sentences by hand and read back.  The folder selftests has them, by subject."""
 import sys
 import time
 
 sys.dont_write_bytecode = True
 
-from selftests import audits, counts, messages, repeats, texts
+from selftests import audits, counts, limits, messages, repeats, texts
 from selftests.claims import claims_mean_what_they_say
 from selftests.hand import hand_cases
 from selftests.jobs import craft_and_write_agree, random_jobs, worked_jobs
@@ -35,6 +35,9 @@ def main(count, seed):
     print('  earlier rounds decide who goes out in %d of the elections, who wins in %d' % ties)
     every_refusal()
     print('refusals 1 to 12, 17 to 19 (checker) and 3, 4, 5, 13 to 15, 17, 19, 20 (writer) are hit')
+    print('%d headers: both entries as due, the second says 23 of %d' % limits.headers())
+    print('sound boards, each with a byte changed and with one more: both entries as due')
+    print('  answers:', limits.boards(seed))
     claims_mean_what_they_say(seed)
     print('claims are true for the right lists and for no others')
     craft_and_write_agree()

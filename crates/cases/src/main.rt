@@ -1,5 +1,6 @@
-// Checks the boards of standard input, and prints a line for each: its name and the verdict.
+// Checks the boards of standard input, and prints a line for each: its name and the verdicts of both entries to the checker.
 use rules::Answer;
+use rules::Checked;
 use testing::input;
 use testing::input::Piece;
 use testing::print;
@@ -17,12 +18,17 @@ fn print_answer(answer: Answer, order: [u8; 8]) {
     }
 }
 
-fn check(name: &[u8], board: &[u8]) {
-    let checked = checker::check(board);
+fn print_checked(checked: Checked) {
     let answer = checked.answer;
     let order = checked.order;
-    print::text(name);
     print_answer(answer, order);
+}
+
+fn check(name: &[u8], board: &[u8]) {
+    print::text(name);
+    print_checked(checker::check(board));
+    print::text(b"; small");
+    print_checked(checker::check_small(board));
     print::text(b"\n");
 }
 

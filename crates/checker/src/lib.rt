@@ -20,7 +20,7 @@ ghost use Rattle.sha256.specs.Message.{sha256};
 ghost use Rattle.rules.specs.Records.{headerLength};
 ghost use Rattle.rules.specs.Count.{start};
 ghost use Rattle.rules.specs.Header.{ranked, header};
-ghost use Rattle.rules.specs.Check.{checkFrom, checkModel, checkBoard};
+ghost use Rattle.rules.specs.Check.{checkFrom, checkModel, checkBoard, checkSmall};
 ghost use Rattle.rules.specs.Answers.{verdictOf, orderOf};
 ghost use Rattle.count.specs.State.{Kept};
 ghost use Rattle.header.specs.Heads.{headOf, HeaderKnown, HeaderReads};
@@ -208,11 +208,12 @@ pub fn count_board(board: &[u8]) -> Counted
     check_model(board, layout::ranked())
 }
 
-// The verdict alone.
-pub fn check(board: &[u8]) -> Checked
-    ensures { λ r. ⌜ (verdictOf r ≡ checkBoard sha256 (now (board .entry))) × (r .order ≡ orderOf (checkBoard sha256 (now (board .entry)))) ⌝ }
+// The verdict alone, on a board of a model.
+fn check_alone(board: &[u8], model: Model) -> Checked
+    requires { ⌜ Narrower model ⌝ }
+    ensures { λ r. ⌜ (verdictOf r ≡ checkModel sha256 (now (board .entry)) model) × (r .order ≡ orderOf (checkModel sha256 (now (board .entry)) model)) ⌝ }
 {
-    let counted = count_board(board);
+    let counted = check_model(board, model);
     let answer = counted.answer;
     let order = match answer {
         Answer::Accepted {
@@ -225,4 +226,18 @@ pub fn check(board: &[u8]) -> Checked
         } => [0u8; 8],
     };
     Checked { answer, order }
+}
+
+// The verdict on a board of rankings.
+pub fn check(board: &[u8]) -> Checked
+    ensures { λ r. ⌜ (verdictOf r ≡ checkBoard sha256 (now (board .entry))) × (r .order ≡ orderOf (checkBoard sha256 (now (board .entry)))) ⌝ }
+{
+    check_alone(board, layout::ranked())
+}
+
+// The verdict for the screen in the council room, which shows five processes and stores 200 ballots.
+pub fn check_small(board: &[u8]) -> Checked
+    ensures { λ r. ⌜ (verdictOf r ≡ checkSmall sha256 (now (board .entry))) × (r .order ≡ orderOf (checkSmall sha256 (now (board .entry)))) ⌝ }
+{
+    check_alone(board, layout::small())
 }

@@ -1,4 +1,4 @@
--- What the third demand says of a call of `check`, and of a call of `write`.
+-- What the third demand says of a call of `check` or `check_small`, and of a call of `write`.
 use Prim.Native.Nat.{ℕ, _-_, _≤_, _<_}
 use mathlib.Core.Path.{_≡_}
 use mathlib.Core.Bool.{true}
@@ -8,7 +8,8 @@ use Rattle.sha256.specs.Message.{sha256}
 use Rattle.rules.specs.Records.{isAudited}
 use Rattle.rules.specs.Count.{plainCount}
 use Rattle.rules.specs.Header.{header}
-use Rattle.rules.specs.Check.{kind}
+use Rattle.rules.specs.Check.{kind, checkBoard}
+use Rattle.rules.specs.Answers.{verdictOf, orderOf}
 use Rattle.rules.specs.Openings.{Opens}
 use Rattle.rules.specs.declared.Checked.{Checked}
 use Rattle.rules.specs.declared.Answer.the-variants as A
@@ -18,6 +19,7 @@ use Rattle.jobs.specs.declared.Reply.the-variants as W
 use Rattle.whole.specs.ThirdDemand.{countedRankings, IsPlain, IsWritten}
 use Rattle.whole.specs.Audited.{OpensAsShown}
 use Rattle.whole.specs.Repeats.{DifferentY}
+use Rattle.whole.specs.SmallLimits.{PastLimits}
 use Rattle.jobs.specs.Write.{noRepeat, Valid}
 
 -- an accepted board whose counted ballots' matrices open to rankings and struck rows has the plain count's rounds, counts, order and winner:
@@ -33,6 +35,10 @@ AcceptedIsPlain s r =
 abbrev pub AuditedAsShown : (s : List ℕ) → Checked → Type 0
 AuditedAsShown s r =
     (rounds winner k : ℕ) → r .answer ≡ A.Accepted rounds winner → k < header s .K → isAudited (kind s (header s) k) ≡ true → OpensAsShown s k
+
+-- "Within the smaller limits both give the same result on each board." (02, L12): of the answer r for the screen to the board s, wherever 23 is not due
+abbrev pub AsForTheBox : (s : List ℕ) → Checked → Type 0
+AsForTheBox s r = (PastLimits s → ⊥) → (verdictOf r ≡ checkBoard sha256 s) × (r .order ≡ orderOf (checkBoard sha256 s))
 
 -- every board written by the rules from 1 to 1,000 rankings of 2 to 8 processes, one counted at least, in any valid group with any valid draws that no matrix
 -- repeats (02, L6), is accepted with that count:

@@ -1,2 +1,2 @@
--- The third demand, of the answers of `check` and `write` themselves.
+-- The third demand, of the answers of `check`, `check_small` and `write` themselves.
 pub mod Demand

@@ -3,7 +3,7 @@ use Prim.Native.Nat.{ℕ}
 use mathlib.Core.Path.{_≡_, _∙_, ap}
 use mathlib.Core.List.{List}
 use Rattle.sha256.specs.Message.{sha256}
-use Rattle.rules.specs.Check.{Verdict, checkBoard}
+use Rattle.rules.specs.Check.{Verdict}
 use Rattle.rules.specs.Notice.{Telling, textOutcome}
 use Rattle.rules.specs.Answers.{answerOf, orderOf, tellingOf}
 use Rattle.rules.specs.declared.Answer.{Answer}
@@ -27,11 +27,9 @@ reply-is : (a : Reply) (order answer : List ℕ) (v : Outcome) → replyOf a ord
 reply-is (W.Board long rounds winner) order answer v e o = let p = rw (← e) at o in rw (← e, ← p)
 reply-is (W.Refused refusal ranking) order answer v e o = rw (← e)
 
-pub checked : (board answer exit : List ℕ) (a : Answer) (order : List ℕ) (code : ℕ) →
-    answerOf a order ≡ checkBoard sha256 board → order ≡ orderOf (checkBoard sha256 board) →
-    code ≡ checkCode (answerOf a order) → exit ≡ checkPut a order answer →
-    (code ≡ checkCode (checkBoard sha256 board)) × (exit ≡ checkAnswer (checkBoard sha256 board) answer)
-checked board answer exit a order code e o ec ex = (ec ∙ ap checkCode e, ex ∙ put-is a order answer (checkBoard sha256 board) e o)
+pub checked : (v : Verdict) (answer exit : List ℕ) (a : Answer) (order : List ℕ) (code : ℕ) → answerOf a order ≡ v → order ≡ orderOf v →
+    code ≡ checkCode (answerOf a order) → exit ≡ checkPut a order answer → (code ≡ checkCode v) × (exit ≡ checkAnswer v answer)
+checked v answer exit a order code e o ec ex = (ec ∙ ap checkCode e, ex ∙ put-is a order answer v e o)
 
 pub replied : (job : Job) (room : ℕ) (answer exit : List ℕ) (a : Reply) (order : List ℕ) (code : ℕ) →
     replyOf a order ≡ writeOutcome sha256 job room → order ≡ orderWritten (writeOutcome sha256 job room) →

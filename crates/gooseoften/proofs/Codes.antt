@@ -2,9 +2,10 @@
 use Prim.Native.Nat.{ℕ, _≤_}
 use mathlib.Core.Path.{_≡_, sym}
 use mathlib.Core.List.{List}
+use mathlib.Core.Logic.{inl, inr}
 use native.Mathlib.Omega.{arith}
 use Rattle.sha256.specs.Message.{sha256}
-use Rattle.rules.specs.Check.{checkBoard}
+use Rattle.rules.specs.Check.{checkBoard, checkSmall}
 use Rattle.rules.specs.Receipts.{findOutcome}
 use Rattle.rules.specs.Notice.{textOutcome}
 use Rattle.rules.specs.Answers.{refusalNumber, answerOf, findingOf, tellingOf}
@@ -19,13 +20,19 @@ use Rattle.jobs.specs.Write.{writeOutcome}
 use Rattle.jobs.specs.Replies.{replyOf}
 use Rattle.jobs.specs.declared.Reply.{Reply}
 use Rattle.jobs.specs.declared.Reply.the-variants as W
-use Rattle.whole.proofs.Refusals.{board-refusal, job-refusal, find-refusal, text-refusal}
+use Rattle.whole.proofs.Refusals.{board-refusal, small-refusal, job-refusal, find-refusal, text-refusal}
 use Rattle.gooseoften.specs.Puts.{recordNamed, rankingNamed, foundNamed, toldNamed}
 
 -- at most 7 rounds of 1,000 ballots and a sheet, and a record more
 pub placed : (board : List ℕ) (a : Answer) (order : List ℕ) → answerOf a order ≡ checkBoard sha256 board → recordNamed a ≤ 7008
 placed board (A.Accepted rounds winner) order e = omega arith
 placed board (A.Refused refusal place) order e = board-refusal sha256 board (refusalNumber refusal) place (sym e) .most
+
+-- for the screen as well, or the header
+pub small-placed : (board : List ℕ) (a : Answer) (order : List ℕ) → answerOf a order ≡ checkSmall sha256 board → recordNamed a ≤ 7008
+small-placed board (A.Accepted rounds winner) order e = omega arith
+small-placed board (A.Refused refusal place) order e =
+    elim (small-refusal sha256 board (refusalNumber refusal) place (sym e)) [ inl w ↦ omega (arith, w .1) | inr w ↦ w .most ]
 
 -- at most 1,000 rankings
 pub which-placed : (job : Job) (room : ℕ) (a : Reply) (order : List ℕ) → replyOf a order ≡ writeOutcome sha256 job room → rankingNamed a ≤ 7008

@@ -1,10 +1,10 @@
-// The box's library: check, write, find and text for programs in C, with numbers, slices and arrays of fixed length alone. include/gooseoften.h declares them.
+// The box's library: check, for the box and for the screen, write, find and text for programs in C, with numbers, slices and arrays of fixed length alone. include/gooseoften.h declares them.
 use group::Element;
 use validity::Job;
 ghost use mathlib.Core.Path.{_≡_};
 ghost use lib.ListN.{length};
 ghost use Rattle.sha256.specs.Message.{sha256};
-ghost use Rattle.rules.specs.Check.{checkBoard};
+ghost use Rattle.rules.specs.Check.{checkBoard, checkSmall};
 ghost use Rattle.rules.specs.Receipts.{findOutcome, listAfter};
 ghost use Rattle.rules.specs.Notice.{textOutcome, outputAfter};
 ghost use Rattle.jobs.specs.Write.{writeOutcome, writeOutput};
@@ -19,6 +19,18 @@ pub extern "C" fn gooseoften_check(board: &[u8], answer: &mut [usize; 10]) -> us
     ensures { λ _. ⌜ now (answer .exit) ≡ checkAnswer (checkBoard sha256 (now (board .entry))) (now (answer .entry)) ⌝ }
 {
     let checked = checker::check(board);
+    let verdict = checked.answer;
+    let order = checked.order;
+    answers::put_verdict(answer, verdict, order)
+}
+
+// The verdict on a board for the screen in the council room.
+#[no_mangle]
+pub extern "C" fn gooseoften_check_small(board: &[u8], answer: &mut [usize; 10]) -> usize
+    ensures { λ r. ⌜ r ≡ checkCode (checkSmall sha256 (now (board .entry))) ⌝ }
+    ensures { λ _. ⌜ now (answer .exit) ≡ checkAnswer (checkSmall sha256 (now (board .entry))) (now (answer .entry)) ⌝ }
+{
+    let checked = checker::check_small(board);
     let verdict = checked.answer;
     let order = checked.order;
     answers::put_verdict(answer, verdict, order)

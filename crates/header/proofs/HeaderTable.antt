@@ -11,7 +11,7 @@ use Rattle.rules.specs.Bytes.{number2, part}
 use Rattle.rules.specs.Group.{orders, generators}
 use Rattle.rules.specs.Records.{hasMark, headerLength}
 use Rattle.rules.specs.Tests.{firstFault, _orElse_}
-use Rattle.rules.specs.Header.{Header, header, headerFault, sizes, counterField}
+use Rattle.rules.specs.Header.{Header, header, headerFault, sizes, limits, counterField}
 use Rattle.rules.specs.declared.Model.{Model}
 
 module _ (model : Model) (s : List ℕ) where
@@ -37,24 +37,29 @@ module _ {model : Model} {s : List ℕ} {n k : ℕ} {g : Parameters} (r : Shown 
   header-is = rw (r .n-is, r .k-is, r .group-is)
 
   tests : headerFault sha256 model s
-      ≡ firstFault ((sizes model n k orElse 3) ∷ (orders n k (g .p) (g .q) orElse 4) ∷ (generators sha256 (part s 22 32) (counterField s) g orElse 5) ∷ [])
+      ≡ firstFault ((sizes model n k orElse 3) ∷ (limits model n k orElse 23) ∷ (orders n k (g .p) (g .q) orElse 4) ∷ (generators sha256 (part s 22 32) (counterField s) g orElse 5) ∷ [])
   unfolding headerFault firstFault
-  tests = rw (le-leb headerLength (length s) (r .long), r .mark) (ap (λ (H : Header). firstFault ((sizes model (H .n) (H .K) orElse 3) ∷ (orders (H .n) (H .K) (H .group .p) (H .group .q) orElse 4) ∷ (generators sha256 (H .label) (counterField s) (H .group) orElse 5) ∷ [])) (sym header-is))
+  tests = rw (le-leb headerLength (length s) (r .long), r .mark) (ap (λ (H : Header). firstFault ((sizes model (H .n) (H .K) orElse 3) ∷ (limits model (H .n) (H .K) orElse 23) ∷ (orders (H .n) (H .K) (H .group .p) (H .group .q) orElse 4) ∷ (generators sha256 (H .label) (counterField s) (H .group) orElse 5) ∷ [])) (sym header-is))
 
   pub wrong-sizes : sizes model n k ≡ false → headerFault sha256 model s ≡ 3
   unfolding firstFault
   wrong-sizes z = tests ∙ rw z
 
   module _ (size : sizes model n k ≡ true) where
-    pub wrong-orders : orders n k (g .p) (g .q) ≡ false → headerFault sha256 model s ≡ 4
+    pub past-limits : limits model n k ≡ false → headerFault sha256 model s ≡ 23
     unfolding firstFault
-    wrong-orders o = tests ∙ rw (size, o)
+    past-limits z = tests ∙ rw (size, z)
 
-    module _ (order : orders n k (g .p) (g .q) ≡ true) where
-      pub wrong-generators : generators sha256 (part s 22 32) (counterField s) g ≡ false → headerFault sha256 model s ≡ 5
+    module _ (limit : limits model n k ≡ true) where
+      pub wrong-orders : orders n k (g .p) (g .q) ≡ false → headerFault sha256 model s ≡ 4
       unfolding firstFault
-      wrong-generators b = tests ∙ rw (size, order, b)
+      wrong-orders o = tests ∙ rw (size, limit, o)
 
-      pub sound-header : generators sha256 (part s 22 32) (counterField s) g ≡ true → headerFault sha256 model s ≡ 0
-      unfolding firstFault
-      sound-header b = tests ∙ rw (size, order, b)
+      module _ (order : orders n k (g .p) (g .q) ≡ true) where
+        pub wrong-generators : generators sha256 (part s 22 32) (counterField s) g ≡ false → headerFault sha256 model s ≡ 5
+        unfolding firstFault
+        wrong-generators b = tests ∙ rw (size, limit, order, b)
+
+        pub sound-header : generators sha256 (part s 22 32) (counterField s) g ≡ true → headerFault sha256 model s ≡ 0
+        unfolding firstFault
+        sound-header b = tests ∙ rw (size, limit, order, b)

@@ -53,7 +53,12 @@ pub fn read_header(board: &[u8], model: Model) -> HeaderRead
     if !parameters::sizes_good(model, n, k) {
         return HeaderRead::Refused(Refusal::Sizes);
     }
-    if !parameters::orders_good(n, k, group.p, group.q) {
+    let few = parameters::limits_good(model, n, k);
+    let ordered = parameters::orders_good(n, k, group.p, group.q);
+    if !few {
+        return HeaderRead::Refused(Refusal::Limits);
+    }
+    if !ordered {
         return HeaderRead::Refused(Refusal::Orders);
     }
     if !parameters::generators_good(&board[22..layout::HEADER_LENGTH], board[17], group) {

@@ -3,7 +3,7 @@ use rules::Model;
 ghost use mathlib.Core.Path.{_≡_};
 ghost use Prim.Native.Nat.{_≤_, _<_, _^_};
 ghost use Rattle.rules.specs.Records.{recordsOf, pairsFrom, countedLength, auditLength, ballotLength, shiftLength, sheetLength, recordLength};
-ghost use Rattle.rules.specs.Header.{ranked};
+ghost use Rattle.rules.specs.Header.{ranked, small};
 
 pub const HF: [u8; 2] = [72, 70];
 
@@ -29,6 +29,22 @@ pub fn ranked() -> Model
         least: 2,
         most: 8,
         ballots: 1000,
+        shows: 8,
+        stores: 1000,
+    }
+}
+
+// The same boards, as few of them as the screen in the council room shows and stores.
+pub fn small() -> Model
+    ensures { λ r. ⌜ r ≡ small ⌝ }
+{
+    Model {
+        mark: HF,
+        least: 2,
+        most: 8,
+        ballots: 1000,
+        shows: 5,
+        stores: 200,
     }
 }
 

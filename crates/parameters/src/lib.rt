@@ -11,7 +11,7 @@ ghost use Rattle.sha256.specs.Message.{sha256};
 ghost use Rattle.group.specs.Elements.{parametersOf};
 ghost use Rattle.rules.specs.Bytes.{bytes4};
 ghost use Rattle.rules.specs.Group.{orders, derived, generators};
-ghost use Rattle.rules.specs.Header.{sizes};
+ghost use Rattle.rules.specs.Header.{sizes, limits};
 
 // The ranges of n and K on a kind of board.
 pub fn sizes_good(model: Model, n: usize, k: usize) -> bool
@@ -27,6 +27,19 @@ pub fn sizes_good(model: Model, n: usize, k: usize) -> bool
         return false;
     }
     k <= model.ballots
+}
+
+// The processes that are shown, and the ballots that are stored.
+pub fn limits_good(model: Model, n: usize, k: usize) -> bool
+    ensures { λ r. ⌜ r ≡ limits model n k ⌝ }
+{
+    if model.shows < n {
+        return false;
+    }
+    if model.stores < k {
+        return false;
+    }
+    true
 }
 
 // The rules on p and q.

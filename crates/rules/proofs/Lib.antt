@@ -4,6 +4,7 @@ pub mod Lists
 pub mod Fewer
 pub mod Leaving
 pub mod Sizes
+pub mod Limits
 pub mod Orders
 pub mod Elements
 pub mod Places

@@ -27,8 +27,9 @@ positive R.Opening = lit< tt
 positive R.NoneCounted = lit< tt
 positive R.Repeat = lit< tt
 positive R.Names = lit< tt
+positive R.Limits = lit< tt
 
-pub number-most : (w : Refusal) → refusalNumber w ≤ 21
+pub number-most : (w : Refusal) → refusalNumber w ≤ 23
 number-most R.Length = lit≤ tt
 number-most R.Mark = lit≤ tt
 number-most R.Sizes = lit≤ tt
@@ -50,3 +51,4 @@ number-most R.Opening = lit≤ tt
 number-most R.NoneCounted = lit≤ tt
 number-most R.Repeat = lit≤ tt
 number-most R.Names = lit≤ tt
+number-most R.Limits = lit≤ tt

@@ -37,6 +37,7 @@ refusalNumber R.Opening = 18
 refusalNumber R.NoneCounted = 19
 refusalNumber R.Repeat = 20
 refusalNumber R.Names = 21
+refusalNumber R.Limits = 23
 
 -- the checker's answer; of the array of 8 the first rounds - 1 are the order
 abbrev pub answerOf : Answer → (order : List ℕ) → Verdict

@@ -10,7 +10,7 @@ use Rattle.rules.specs.Records.{headerLength, kindAt, isCounted, records
 use Rattle.rules.specs.Claims.{Matrix, matrixAt}
 use Rattle.rules.specs.Count.{Standing, start, next, leaves, wins, closes}
 use Rattle.rules.specs.Tests.{firstFault, faultBelow, _orElse_}
-use Rattle.rules.specs.Header.{ranked, Header, header, headerFault}
+use Rattle.rules.specs.Header.{ranked, small, Header, header, headerFault}
 use Rattle.rules.specs.Ballot.{ballotTests}
 use Rattle.rules.specs.Shift.{shiftFault}
 use Rattle.rules.specs.Sheet.{Tally, noRow, withRow, outAt, countAt, exponentAt, countsAt, sheetFault}
@@ -151,3 +151,7 @@ module _ (hash : List ℕ → List ℕ) (s : List ℕ) where
 
   abbrev pub checkBoard : Verdict
   checkBoard = checkModel ranked
+
+  -- the second entry's verdict, for the screen in the council room (02, L12)
+  abbrev pub checkSmall : Verdict
+  checkSmall = checkModel small

@@ -1,5 +1,6 @@
 -- What 01 says of a board, its checker and the count, and what 02 asks of the ballots' receipts, of equal counts, of the message of a
--- challenge, of audited ballots and of the count in sentences: the definitions alone. Text in quotation marks is 01's but where a file says otherwise.
+-- challenge, of audited ballots, of the count in sentences and of the screen in the council room: the definitions alone. Text in quotation
+-- marks is 01's but where a file says otherwise.
 -- Rounds, ballots, rows, columns and branches are counted from 0; processes from 1.
 pub mod Bytes
 pub mod Group

@@ -46,6 +46,8 @@ pub enum Refusal {
     Repeat,
     // 21: the names are not one of 1 to 20 letters a process, each with a line feed after it, all different.
     Names,
+    // 23: n or K is in range, and past the smaller limits that an entry to the checker holds boards to.
+    Limits,
 }
 
 // The number of a refusal in the table.
@@ -74,15 +76,19 @@ pub fn refusal_number(r: Refusal) -> usize
         Refusal::NoneCounted => 19,
         Refusal::Repeat => 20,
         Refusal::Names => 21,
+        Refusal::Limits => 23,
     }
 }
 
-// A kind of board: the mark of its header, the least and the most processes, and the most ballots.
+// A kind of board: the mark of its header; what 3 tests, the least and the most processes, and the most ballots; and what 23 tests after that, how many
+// processes an entry to the checker shows, and how many ballots it stores.
 pub struct Model {
     pub mark: [u8; 2],
     pub least: usize,
     pub most: usize,
     pub ballots: usize,
+    pub shows: usize,
+    pub stores: usize,
 }
 
 pub enum Answer {

@@ -8,11 +8,11 @@ ghost use Rattle.io.specs.Counts.{Counts};
 ghost use Rattle.testing.specs.Input.{pieceAt, QuestionReads};
 
 // An input is shorter than this.
-pub const LIMIT: usize = 2097152;
+pub const LIMIT: usize = 2359296;
 
 // Room for an input: zeros.
 pub fn room() -> [u8; LIMIT]
-    ensures { λ r. ⌜ (2097152 ≡ length r) × ((i : ℕ) → i < 2097152 → getD r i 0 ≡ 0) ⌝ }
+    ensures { λ r. ⌜ (2359296 ≡ length r) × ((i : ℕ) → i < 2359296 → getD r i 0 ≡ 0) ⌝ }
 {
     [0; LIMIT]
 }

@@ -22,7 +22,7 @@ use Rattle.group.specs.Arithmetic.{powMod}
 use Rattle.rules.specs.Records.{HF, hasMark, isCounted, isAudited}
 use Rattle.rules.specs.Count.{start, isRanking, tableWhere, plainCount}
 use Rattle.rules.specs.Audit.{shownExponent, shownRanking}
-use Rattle.rules.specs.Header.{ranked, header}
+use Rattle.rules.specs.Header.{ranked, sizes, header}
 use Rattle.rules.specs.Check.{checkFrom, accepted, checkModel, checkBoard, place, kind, matrix}
 use Rattle.jobs.specs.Records.{secretAt}
 use Rattle.jobs.specs.Job.{countedRankings as jobRankings, Job, groupOf, headerOf, rankingOf, kindOf, roundAt, boardLength, plainResult}
@@ -39,6 +39,7 @@ use Rattle.rules.proofs.Elements.{Good}
 use Rattle.jobs.proofs.Lists.{standing-all}
 use Rattle.whole.proofs.Complete.Rounds.{Reach, kinds-read, rounds, record-stands}
 use Rattle.rules.proofs.Places.{stands-whole, stands-left, stands-right, half-stands, word-stands, part-stands}
+use Rattle.rules.proofs.Limits.{ranked-unlimited, never-past}
 use Rattle.jobs.proofs.Counting.{first-reached, in-rounds}
 use Rattle.whole.proofs.Complete.BallotRecord.{exponent-read, ranking-read}
 use Rattle.jobs.proofs.Positions.{round-is, round-same}
@@ -101,12 +102,16 @@ module _ (hash : List ℕ → List ℕ) (job : Job) (f : Fine hash job) where
   unfolding board
   long = omega (arith, length-append (job .label) later, f .labelled)
 
+  sizes-kept : sizes ranked (header s .n) (header s .K) ≡ true
+  sizes-kept = rw (header-same, le-leb 2 (job .n) (f .n-low), le-leb (job .n) 8 (f .n-high), le-leb 1 (job .K) (f .K-low), le-leb (job .K) 1000 (f .K-high))
+
   header-kept : HeaderRules hash ranked s
   header-kept =
       record {
         fits = omega (arith, long);
         marked = fields .0;
-        sized = rw (header-same, le-leb 2 (job .n) (f .n-low), le-leb (job .n) 8 (f .n-high), le-leb 1 (job .K) (f .K-low), le-leb (job .K) 1000 (f .K-high));
+        sized = sizes-kept;
+        limited = never-past ranked ranked-unlimited (header s .n) (header s .K) sizes-kept;
         ordered = rw header-same (f .ordered);
         generated = rw (header-same, fields .6) (f .generated);
       }

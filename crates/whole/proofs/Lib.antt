@@ -1,4 +1,4 @@
--- The proofs: the second demand, both halves of the third, audited ballots, the refusals, draws that repeat, the receipts, the sentences, the messages and the starred cases.
+-- The proofs: the second demand, both halves of the third, audited ballots, the refusals, draws that repeat, the receipts, the sentences, the messages, the screen's entry and the starred cases.
 pub mod Rules
 pub mod Verdicts
 pub mod Sound
@@ -8,6 +8,7 @@ pub mod SecondDemand
 pub mod ThirdDemand
 pub mod Audited
 pub mod Refusals
+pub mod SmallLimits
 pub mod Repeats
 pub mod EqualCounts
 pub mod Receipts

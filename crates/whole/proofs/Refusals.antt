@@ -3,7 +3,7 @@ use Prim.Native.Nat.{ℕ, zero, suc, _+_, _*_, _-_, _≤_}
 use mathlib.Core.Path.{_≡_, refl, sym, ap, _∙_}
 use mathlib.Core.Bool.{Bool, true, false, not, true≢false, and-eq-true-iff}
 use mathlib.Core.List.{List, [], _∷_, _++_, append-assoc}
-use mathlib.Core.Logic.{inl, inr}
+use mathlib.Core.Logic.{_⊎_, inl, inr}
 use mathlib.Core.Option.{Option, none, some}
 use native.Mathlib.Nat.{mul-le-mul-right}
 use native.Mathlib.Omega.{arith}
@@ -19,7 +19,7 @@ use Rattle.rules.specs.Header.{ranked, sizes, Header, header, headerFault}
 use Rattle.rules.specs.Shift.{shiftFault}
 use Rattle.rules.specs.Sheet.{sheetFields, sheetFault}
 use Rattle.rules.specs.Records.{isCounted}
-use Rattle.rules.specs.Check.{Verdict, Position, kind, counted, recordNumber, accepted, refused, recordFault, roundSheetFault, checkBoard}
+use Rattle.rules.specs.Check.{Verdict, Position, kind, counted, recordNumber, accepted, refused, recordFault, roundSheetFault, checkBoard, checkSmall}
 use Rattle.rules.specs.Receipts.{listFault, frameFault, findRefused, findInBallots, findOnBoard, findOutcome}
 use Rattle.rules.specs.Sentences.{text}
 use Rattle.rules.specs.Notice.{nameOf, namesGood, boardResult, textTold, textRefused, textFault, tell, textOutcome}
@@ -28,6 +28,7 @@ use Rattle.numbers.proofs.Tests.{by-cases, or-false-left, and-true, all-true}
 use Rattle.jobs.proofs.FineJob.{valid, no-refusal}
 use Rattle.rules.proofs.Faults.{fault-none, fault-is, Faulty, first-faulty}
 use Rattle.rules.proofs.Leaving.{not-last}
+use Rattle.rules.proofs.Limits.{ranked-unlimited, five-tests, pastLimits, small-verdict}
 use Rattle.rules.proofs.Positions.{position-first, number-next, number-up, number-first, number-later, few-counted}
 use Rattle.whole.proofs.Rules.{header-rules}
 use Rattle.whole.proofs.Sound.Accepted.{header-good}
@@ -61,8 +62,8 @@ module _ {P : Type 0} where
 
 module _ (hash : List ℕ → List ℕ) (s : List ℕ) where
   due-header : {P : Type 0} → Due P (headerFault hash ranked s)
-  unfolding headerFault member
-  due-header = due-test _ _ refl refl (due-test _ _ refl refl (due-test _ _ refl refl (due-test _ _ refl refl (due-test _ _ refl refl due-none))))
+  unfolding member
+  due-header = rw (five-tests hash s ranked ranked-unlimited) (due-test _ _ refl refl (due-test _ _ refl refl (due-test _ _ refl refl (due-test _ _ refl refl (due-test _ _ refl refl due-none)))))
 
   module _ (h : Header) where
     -- 19 is of the last ballot in the first round
@@ -139,6 +140,13 @@ module _ (hash : List ℕ → List ℕ) (s : List ℕ) where
           (rw (← broken) (due-sheet (header s) m (dueAt s m))) (omega arith)
       go (at-end m q before o closed remain twelve) =
           named m refusal number (passed-fewer hash s (passed-of hash s (suc m) 0 (rw (q, next-number hash s m) at before))) (of-open hash s m (header s .K) o) (omega arith) (rw twelve (refl, λ z. absurd (omega arith))) (omega arith)
+
+  -- for the screen
+  pub small-refusal : (refusal number : ℕ) → checkSmall hash s ≡ refused refusal number → ((refusal ≡ 23) × (number ≡ 0)) ⊎ BoardRefusal s refusal number
+  small-refusal refusal number e =
+      by-cases (pastLimits s)
+      (λ p. let q : refused 23 0 ≡ refused refusal number = rw (small-verdict hash s, p) at e in inl (cc, cc))
+      (λ p. inr (board-refusal refusal number (rw (small-verdict hash s, p) at e)))
 
 -- ---- jobs
 abbrev Numbers : List ℕ
@@ -224,8 +232,10 @@ module _ (hash : List ℕ → List ℕ) (s digests : List ℕ) (room : ℕ) wher
   of-list = of-finds _ _ refl (of-finds _ _ refl (rw fault-none))
 
   find-header : OfFinds (headerFault hash ranked s)
-  unfolding headerFault member
-  find-header = of-finds _ _ refl (of-finds _ _ refl (of-finds _ _ refl (of-finds _ _ refl (of-finds _ _ refl (rw fault-none)))))
+  unfolding member
+  find-header =
+      rw (five-tests hash s ranked ranked-unlimited)
+      (of-finds _ _ refl (of-finds _ _ refl (of-finds _ _ refl (of-finds _ _ refl (of-finds _ _ refl (rw fault-none))))))
 
   -- neither 15 nor 16 is due to a record
   abbrev OfFrames : ℕ → Type 0
@@ -341,6 +351,7 @@ pub refusals : (hash : List ℕ → List ℕ) → Refusals hash
 refusals hash =
     record {
       of-boards = board-refusal hash;
+      of-small = small-refusal hash;
       records-read = λ s h m. number-next s h m ∙ records-in s h m;
       of-jobs = job-refusal hash;
       of-finds = find-refusal hash;

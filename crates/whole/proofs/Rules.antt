@@ -93,9 +93,9 @@ pub header-rules : (hash : List ℕ → List ℕ) (model : Model) (s : List ℕ)
 unfolding headerFault header
 header-rules hash model s = (
   λ f.
-      let (fits, (marked, (sized, (ordered, (generated, _))))) = simp (first-iff, leb-iff) at f in
-      record { fits = fits; marked = marked; sized = sized; ordered = ordered; generated = generated },
-  λ w. simp (first-iff, leb-iff) (w .fits, (w .marked, (w .sized, (w .ordered, (w .generated, fault-none))))),
+      let (fits, (marked, (sized, (limited, (ordered, (generated, _)))))) = simp (first-iff, leb-iff) at f in
+      record { fits = fits; marked = marked; sized = sized; limited = limited; ordered = ordered; generated = generated },
+  λ w. simp (first-iff, leb-iff) (w .fits, (w .marked, (w .sized, (w .limited, (w .ordered, (w .generated, fault-none)))))),
 )
 
 -- of an audited record, 7 and 18

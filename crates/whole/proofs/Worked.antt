@@ -18,6 +18,9 @@ use Rattle.group.specs.Arithmetic.{powMod}
 use Rattle.group.specs.Elements.{isElement}
 use Rattle.rules.specs.Group.{orders, paired, derived, generators}
 use Rattle.rules.specs.Proofs.{statementHolds}
+use Rattle.rules.specs.Tests.{firstFault}
+use Rattle.rules.specs.Header.{header, headerFault}
+use Rattle.rules.specs.Check.{accepted, checkModel, checkSmall}
 use Rattle.rules.specs.Count.{Standing, start, roundNumber, member, countOf, fewer, pick, majority, closes, isRanking, tableWhere, plainCount}
 use Rattle.rules.specs.Openings.{without}
 use Rattle.rules.specs.Receipts.{same}
@@ -25,10 +28,12 @@ use Rattle.rules.specs.Sentences.{bytes, decimal, joined, line, text}
 use Rattle.rules.specs.Notice.{isLetter, lettersOf, nameFrom, namesGood}
 use Rattle.rules.specs.Records.{recordsOf}
 use Rattle.jobs.specs.Job.{Job, countedRankings as jobRankings, plainResult, recordDraws, needed, roundDraws, roundAt, boardLength}
+use Rattle.jobs.specs.Board.{board}
 use Rattle.jobs.specs.Write.{drawsGood, different, noRepeat, Passed, Valid, badRanking, boardWritten, jobRefused, writeOutcome}
-use Rattle.whole.specs.Worked.{small, Pair, circle, twoOfTwo, inTurn, smallJob, auditedJob, Circle, Spot, Ties, Told, Worked}
+use Rattle.whole.specs.Worked.{small, Pair, circle, twoOfTwo, inTurn, smallJob, auditedJob, Circle, Spot, Ties, Told, Screen, Worked}
 use Rattle.whole.proofs.Complete.{fixed, written, written-shown}
 use Rattle.whole.proofs.Refusals.{count-limit}
+use Rattle.whole.proofs.SmallLimits.{small-limits}
 use Rattle.whole.proofs.Repeats.{repeats}
 use Rattle.whole.specs.Repeats.{Repeat}
 use Rattle.rules.proofs.Lists.{length-table, table-at}
@@ -189,6 +194,26 @@ sentences =
       of-21 = refl;
     }
 
+small-shown : checkSmall sha256 (board sha256 smallJob) ≡ accepted 2 (3 ∷ []) 1
+small-shown =
+    small-limits sha256 .within (board sha256 smallJob) (rw (fixed sha256 smallJob small-valid .heads) (record { shown = omega arith; stored = omega arith }))
+    ∙ goes-around sha256 23 11 2 1 (replicate 32 0) (inTurn 222) small-valid .verdict
+
+screened : Screen
+unfolding checkModel headerFault header firstFault orders isPrime
+screened =
+    record {
+      at-the-limits = λ hash. (refl, refl);
+      six-processes = λ hash. (refl, refl);
+      ballots-201 = λ hash. (refl, refl);
+      largest = λ hash. (refl, refl);
+      out-of-range = λ hash. (refl, refl);
+      no-ballot = λ hash. (refl, refl);
+      old-mark = λ hash. (refl, refl);
+      cut-short = λ hash. (refl, refl);
+      small-shown = small-shown;
+    }
+
 pub worked : Worked
 unfolding statementHolds powMod closes fewer pick without plainCount
 worked =
@@ -216,4 +241,5 @@ worked =
       spot = spotted;
       ties = tied;
       told = sentences;
+      screen = screened;
     }

@@ -1,13 +1,13 @@
 -- What the refusals name: never the end of the fuel, never a record or a ranking that is not there.
 use Prim.Native.Nat.{ℕ, suc, _+_, _*_, _-_, _≤_, _<_}
 use mathlib.Core.Path.{_≡_}
-use mathlib.Core.Logic.{_↔_}
+use mathlib.Core.Logic.{_↔_, _⊎_}
 use mathlib.Core.Bool.{true, false}
 use mathlib.Core.List.{List, [], _∷_}
 use lib.ListN.{length}
 use Rattle.rules.specs.Count.{member, isRanking, start, countFrom, plainCount}
 use Rattle.rules.specs.Header.{Header, header}
-use Rattle.rules.specs.Check.{place, recordNumber, counted, accepted, refused, checkBoard}
+use Rattle.rules.specs.Check.{place, recordNumber, counted, accepted, refused, checkBoard, checkSmall}
 use Rattle.rules.specs.Receipts.{findRefused, findOutcome}
 use Rattle.rules.specs.Notice.{textRefused, textOutcome}
 use Rattle.jobs.specs.Job.{Job, rankingOf, boardLength}
@@ -52,6 +52,8 @@ pub record TextRefusal (hash : List ℕ → List ℕ) (s : List ℕ) (refusal nu
 
 pub record Refusals (hash : List ℕ → List ℕ) : Type 0 where
   pub of-boards : (s : List ℕ) (refusal number : ℕ) → checkBoard hash s ≡ refused refusal number → BoardRefusal s refusal number
+  -- for the screen (02, L12): 23 of the header, or one of those
+  pub of-small : (s : List ℕ) (refusal number : ℕ) → checkSmall hash s ≡ refused refusal number → ((refusal ≡ 23) × (number ≡ 0)) ⊎ BoardRefusal s refusal number
   -- the records of m + 1 rounds: the header, K ballots and a sheet, and in each further round a shift of each counted ballot and a sheet
   pub records-read : (s : List ℕ) (h : Header) (m : ℕ) → recordNumber s h (suc m) 0 ≡ 1 + (h .K + 1) + m * (counted s h + 1)
   pub of-jobs : (job : Job) (room number ranking : ℕ) → writeOutcome hash job room ≡ jobRefused number ranking → JobRefusal job number ranking

@@ -14,7 +14,7 @@ use Rattle.rules.specs.Records.{BA, SH, RT, hasMark, headerLength, kindAt, isAu
 use Rattle.rules.specs.Proofs.{Statement, Context, branchAt, statementAt, commitmentsAt, message, challenge}
 use Rattle.rules.specs.Claims.{Matrix, matrixAt, entryClaim, rowClaim, columnClaim, shiftClaim}
 use Rattle.rules.specs.Count.{isRanking}
-use Rattle.rules.specs.Header.{sizes, Header, header, counterField}
+use Rattle.rules.specs.Header.{sizes, limits, Header, header, counterField}
 use Rattle.rules.specs.Audit.{valueOf, shownExponent, shownRanking}
 use Rattle.rules.specs.Ballot.{ballotMatrix, entryProof, rowProof, columnProof, entryPlace, rowPlace, columnPlace, ballotContext}
 use Rattle.rules.specs.Shift.{shiftProof, shiftContext}
@@ -64,6 +64,8 @@ pub record HeaderRules (hash : List ℕ → List ℕ) (model : Model) (s : List 
   pub marked : hasMark s 0 (model .mark) ≡ true
   -- 3: "n or K out of range"
   pub sized : sizes model (header s .n) (header s .K) ≡ true
+  -- 23 (02, L12): "past 5 or 200 but within 3" where the model is `small`; with `ranked` it says nothing beyond 3
+  pub limited : limits model (header s .n) (header s .K) ≡ true
   -- 4: "a rule on p and q broken"
   pub ordered : orders (header s .n) (header s .K) (header s .group .p) (header s .group .q) ≡ true
   -- 5: "a rule on g0 or g1 broken"

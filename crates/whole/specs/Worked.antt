@@ -1,17 +1,19 @@
--- The starred cases of "Tried by hand", each said of the definitions, in one table, with p = 23, q = 11, g0 = 2 and g1 = 3; and equal counts and
--- sentences (02).
+-- The starred cases of "Tried by hand", each said of the definitions, in one table, with p = 23, q = 11, g0 = 2 and g1 = 3; and equal counts,
+-- sentences and the screen's limits (02).
 use Prim.Native.Nat.{ℕ, suc, _+_, _-_, _%_, _≤_, _<_}
 use mathlib.Core.Path.{_≡_}
 use mathlib.Core.Bool.{true, false}
-use mathlib.Core.List.{List, [], _∷_}
-use lib.ListN.{length, replicate}
+use mathlib.Core.List.{List, [], _∷_, _++_}
+use lib.ListN.{length, take, replicate}
 use Rattle.sha256.specs.Message.{sha256}
 use Rattle.group.specs.Arithmetic.{mulMod, powMod}
 use Rattle.group.specs.Elements.{Parameters}
+use Rattle.rules.specs.Bytes.{bytes2}
 use Rattle.rules.specs.Group.{paired, derived}
+use Rattle.rules.specs.Records.{HF}
 use Rattle.rules.specs.Proofs.{statementHolds}
 use Rattle.rules.specs.Count.{table, Standing, roundNumber, start, member, countOf, leaves, wins, closes, plainCount}
-use Rattle.rules.specs.Check.{accepted, checkBoard}
+use Rattle.rules.specs.Check.{accepted, refused, checkBoard, checkSmall}
 use Rattle.rules.specs.Openings.{Opening, without}
 use Rattle.rules.specs.Sentences.{bytes, line, text}
 use Rattle.rules.specs.Notice.{nameOf, namesGood}
@@ -151,6 +153,26 @@ pub record Told : Type 0 where
   pub of-20 : namesGood (bytes "abcdefghijklmnopqrst\nQuark\n") 2 ≡ true
   pub of-21 : namesGood (bytes "abcdefghijklmnopqrstu\nQuark\n") 2 ≡ false
 
+-- a header with a mark, n and K, and zeros behind them, so that 4 is due to it if nothing before is
+abbrev pub headerOnly : (mark : List ℕ) (n K : ℕ) → List ℕ
+headerOnly mark n K = mark ++ (n ∷ bytes2 K) ++ replicate 49 0
+
+-- the refusals of a board for the screen and for the box, each with 0
+abbrev pub Refused : (s : List ℕ) (screen box : ℕ) → Type 0
+Refused s screen box = (hash : List ℕ → List ℕ) → (checkSmall hash s ≡ refused screen 0) × (checkBoard hash s ≡ refused box 0)
+
+-- "It refuses with 23 a header past 5 or 200 but within 3, right after 3." (02, L12)
+pub record Screen : Type 0 where
+  pub at-the-limits : Refused (headerOnly HF 5 200) 4 4
+  pub six-processes : Refused (headerOnly HF 6 200) 23 4
+  pub ballots-201 : Refused (headerOnly HF 5 201) 23 4
+  pub largest : Refused (headerOnly HF 8 1000) 23 4
+  pub out-of-range : Refused (headerOnly HF 9 201) 3 3
+  pub no-ballot : Refused (headerOnly HF 6 0) 3 3
+  pub old-mark : Refused (headerOnly (72 ∷ 68 ∷ []) 6 201) 2 2
+  pub cut-short : Refused (take 53 (headerOnly HF 6 201)) 1 1
+  pub small-shown : checkSmall sha256 (board sha256 smallJob) ≡ accepted 2 (3 ∷ []) 1
+
 pub record Worked : Type 0 where
   -- "x = 5, v = 1 gives (4, 13)", "x = 5, v = 0 gives (9, 13)", "x = 7, v = 1 gives (16, 2)"
   pub five-one : Pair 5 1 4 13
@@ -189,3 +211,5 @@ pub record Worked : Type 0 where
   pub ties : Ties
   -- sentences
   pub told : Told
+  -- the screen's limits
+  pub screen : Screen

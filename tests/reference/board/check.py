@@ -1,8 +1,8 @@
 """check.py - the checker: a board read record by record.  Words in quotation marks are 01's, on the
-header's mark and on a ballot's kind 02's."""
+header's mark, on a ballot's kind and on the second entry 02's."""
 from .count import after_close, after_out, closes, first_standing, lowest_due, winner_due
-from .group import (Group, g0_holds, g1_holds, group_holds, make_g1, pair_of, product_of,
-                    sizes_hold)
+from .group import (BOX, SMALL, Group, g0_holds, g1_holds, group_holds, make_g1, pair_of,
+                    product_of, sizes_hold, within)
 from .proofs import (Context, column_place, entry_claim, entry_place, line_claim, proof_holds,
                      row_place, shift_claim)
 from .reading import Reading, Refused
@@ -10,7 +10,7 @@ from .sizes import (AUDITED, BA_FRAME, COUNTED, HF_LENGTH, ba_length, rows_of_ro
                     sh_length)
 
 
-def read_header(reading):
+def read_header(reading, limits=BOX):
     # "A header of this model starts HF, and HD meets refusal 2."
     reading.open(b'HF', HF_LENGTH)
     n = reading.number(1)
@@ -24,6 +24,9 @@ def read_header(reading):
     # "HD: n or K out of range | 3"
     if not sizes_hold(n, K):
         reading.refuse(3)
+    # "It refuses with 23 a header past 5 or 200 but within 3, right after 3."
+    if not within(limits, n, K):
+        reading.refuse(23)
     # "HD: a rule on p and q broken | 4"
     if not group_holds(n, K, p, q):
         reading.refuse(4)
@@ -177,18 +180,24 @@ def read_sheet(reading, group, standing, matrices):
     return after_out(standing, counts, out), None
 
 
-def check(board):
+def check(board, limits=BOX):
     try:
-        standing, winner = read_board(bytes(board))
+        standing, winner = read_board(bytes(board), limits)
     except Refused as refused:
         return ('refused', refused.number, refused.record)
     return ('accepted', standing.m, list(standing.outs), winner)
 
 
-def read_board(board):
+def check_small(board):
+    """"A second entry to the checker holds boards to n <= 5 and K <= 200, while the box keeps 8 and
+    1,000.  Within the smaller limits both give the same result on each board." """
+    return check(board, SMALL)
+
+
+def read_board(board, limits=BOX):
     """The last standing count and the winner of an accepted board; raises Refused of any other."""
     reading = Reading(board)
-    n, K, group = read_header(reading)
+    n, K, group = read_header(reading, limits)
     matrices = {}                       # of the counted ballots, by number
     for k in range(1, K + 1):
         kind, matrix = read_ballot(reading, group, n, k)

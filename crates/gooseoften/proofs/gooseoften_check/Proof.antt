@@ -1,6 +1,8 @@
 use denote.Ref.{now}
 use native.Mathlib.Omega.{arith}
 use borrow.Author.Needs.{needs}
+use Rattle.sha256.specs.Message.{sha256}
+use Rattle.rules.specs.Check.{checkBoard}
 use Rattle.gooseoften.proofs.Codes.{placed}
 use Rattle.gooseoften.proofs.Calls.{checked}
 use Rattle.gooseoften.proofs.gooseoften_check.Statement.{statement}
@@ -17,7 +19,7 @@ returns c =
     let f = c .before .before .before .before .before .args in
     let r = c .before .before .before .check in
     let e = c .put-verdict .ensures in
-    checked (now (f .board)) (now (f .answer)) _ (r .result .answer) (r .result .order) _ (r .ensures .0) (r .ensures .1) (e .0) (e .1)
+    checked (checkBoard sha256 (now (f .board))) (now (f .answer)) _ (r .result .answer) (r .result .order) _ (r .ensures .0) (r .ensures .1) (e .0) (e .1)
 
 pub gooseoften-check-spec : {M : Type 1} → statement M
 gooseoften-check-spec = tie.close (tie.spec (λ c κs. search needs) put-verdict-requires returns)

@@ -5,7 +5,7 @@ use Rattle.testing.proofs.input.room.Statement.{statement}
 use Rattle.testing.proofs.input.room.Tie as tie
 
 returns : tie.Need-returns
-returns c = (sym (length-replicate {A = ℕ} 2097152 0), λ i h. getD-replicate {A = ℕ} 2097152 i 0 0 h)
+returns c = (sym (length-replicate {A = ℕ} 2359296 0), λ i h. getD-replicate {A = ℕ} 2359296 i 0 0 h)
 
 pub room-spec : {M : Type 1} → statement M
 room-spec = tie.close (tie.spec returns)
