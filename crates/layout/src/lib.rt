@@ -34,7 +34,7 @@ pub fn ranked() -> Model
     }
 }
 
-// The same boards, as few of them as the screen in the council room shows and stores.
+// The same boards, held to what the screen in the council room shows and stores.
 pub fn small() -> Model
     ensures { λ r. ⌜ r ≡ small ⌝ }
 {

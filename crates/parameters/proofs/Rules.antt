@@ -1,18 +1,15 @@
--- How g1 is made, and what the rules on the sizes and the orders say of the numbers.
+-- How g1 is made, and what the rules on the orders say of the numbers.
 use Prim.Native.Nat.{ℕ, _-_, _/_, _%_, _≤_, _<_}
 use mathlib.Core.Path.{_≡_, sym, ap, _∙_}
 use mathlib.Core.Bool.{true, and-eq-true-iff}
 use mathlib.Core.List.{List, [], _∷_, _++_, append-assoc}
 use native.Mathlib.Omega.{arith}
-use borrow.Author.Tests.{leb-true}
 use Rattle.numbers.specs.Primes.{isPrime}
 use Rattle.numbers.proofs.Primes.{prime-of-test}
 use Rattle.sha256.specs.Message.{sha256}
 use Rattle.group.specs.Arithmetic.{powMod}
 use Rattle.rules.specs.Bytes.{number8, bytes4}
 use Rattle.rules.specs.Group.{orders, derived}
-use Rattle.rules.specs.Header.{sizes}
-use Rattle.rules.specs.declared.Model.{Model}
 
 -- r is the power of c, which is the digest d of the label and the end e
 pub made : (label : List ℕ) (p q g0 counter r c : ℕ) (d e : List ℕ) → r ≡ powMod p c ((p - 1) / q) → c ≡ number8 d 0 % p → d ≡ sha256 (label ++ e) →
@@ -30,8 +27,3 @@ unfolding orders
 orders-positive n k p q h =
     let w = simp and-eq-true-iff at h in
     (omega (arith, prime-large p (w .0 .0 .0 .0 .0)), omega (arith, prime-large q (w .0 .0 .0 .0 .1)))
-
-pub sizes-bounds : (model : Model) (n k : ℕ) → sizes model n k ≡ true → (model .least ≤ n) × (n ≤ model .most) × (1 ≤ k) × (k ≤ model .ballots)
-sizes-bounds model n k h =
-    let w = simp and-eq-true-iff at h in
-    (leb-true _ n (w .0 .0 .0), leb-true n _ (w .0 .0 .1), leb-true 1 k (w .0 .1), leb-true k _ (w .1))

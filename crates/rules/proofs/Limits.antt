@@ -1,4 +1,5 @@
--- 23: never due on boards that are shown and stored whole; on others due just where the tests before it pass.
+-- The ranges of n and K, which 3 tests; and 23: never due where all that is in range is shown and stored, for the screen due just where the tests
+-- before it pass.
 use Prim.Native.Nat.{ℕ, _≤_}
 use mathlib.Core.Path.{_≡_, refl}
 use mathlib.Core.Bool.{Bool, true, false, cond, not, _&&_, and-eq-true-iff}
@@ -15,6 +16,15 @@ use Rattle.rules.specs.Header.{ranked, small, sizes, limits, header, cou
 use Rattle.rules.specs.Check.{refused, checkModel, checkBoard, checkSmall}
 use Rattle.rules.specs.declared.Model.{Model}
 
+-- the test of the ranges, and what it says of the numbers
+pub sizes-bounds : (model : Model) (n K : ℕ) → sizes model n K ≡ true → (model .least ≤ n) × (n ≤ model .most) × (1 ≤ K) × (K ≤ model .ballots)
+sizes-bounds model n K h =
+    let w = simp and-eq-true-iff at h in
+    (leb-true _ n (w .0 .0 .0), leb-true n _ (w .0 .0 .1), leb-true 1 K (w .0 .1), leb-true K _ (w .1))
+
+pub sizes-in : (model : Model) (n K : ℕ) → model .least ≤ n → n ≤ model .most → 1 ≤ K → K ≤ model .ballots → sizes model n K ≡ true
+sizes-in model n K least most some few = and-true (and-true (and-true (le-leb _ n least) (le-leb n _ most)) (le-leb 1 K some)) (le-leb K _ few)
+
 -- as many processes are shown as there may be, and as many ballots stored
 pub record Unlimited (model : Model) : Type 0 where
   pub shown : model .most ≤ model .shows
@@ -25,8 +35,7 @@ ranked-unlimited = record { shown = omega arith; stored = omega arith }
 
 pub never-past : (model : Model) → Unlimited model → (n K : ℕ) → sizes model n K ≡ true → limits model n K ≡ true
 never-past model w n K h =
-    let b = simp and-eq-true-iff at h in
-    and-true (le-leb n _ (omega (arith, leb-true n _ (b .0 .0 .1), w .shown))) (le-leb K _ (omega (arith, leb-true K _ (b .1), w .stored)))
+    let b = sizes-bounds model n K h in and-true (le-leb n _ (omega (arith, b .1, w .shown))) (le-leb K _ (omega (arith, b .3, w .stored)))
 
 -- 1, 2 and 3 are not due, and more are there than the screen shows or stores
 unfoldable pub pastLimits : (s : List ℕ) → Bool

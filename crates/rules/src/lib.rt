@@ -81,7 +81,7 @@ pub fn refusal_number(r: Refusal) -> usize
 }
 
 // A kind of board: the mark of its header; what 3 tests, the least and the most processes, and the most ballots; and what 23 tests after that, how many
-// processes an entry to the checker shows, and how many ballots it stores.
+// processes are shown, and how many ballots stored.
 pub struct Model {
     pub mark: [u8; 2],
     pub least: usize,

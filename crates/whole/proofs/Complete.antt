@@ -14,7 +14,7 @@ use mathlib.Core.Path.{subst, subst⁻¹, _≡_, sym, refl, _∙_}
 use mathlib.Core.Bool.{true, and-eq-true-iff}
 use mathlib.Core.List.{List, [], _∷_, _++_}
 use lib.ListN.{length, getD, length-append}
-use borrow.Author.Tests.{le-leb, ltb-true}
+use borrow.Author.Tests.{ltb-true}
 use Rattle.rules.specs.Bytes.{number2, number4, bytes2, bytes4, Stands}
 use Rattle.group.specs.Elements.{Parameters, isElement}
 use Rattle.rules.specs.Group.{generators, derived}
@@ -39,7 +39,7 @@ use Rattle.rules.proofs.Elements.{Good}
 use Rattle.jobs.proofs.Lists.{standing-all}
 use Rattle.whole.proofs.Complete.Rounds.{Reach, kinds-read, rounds, record-stands}
 use Rattle.rules.proofs.Places.{stands-whole, stands-left, stands-right, half-stands, word-stands, part-stands}
-use Rattle.rules.proofs.Limits.{ranked-unlimited, never-past}
+use Rattle.rules.proofs.Limits.{sizes-in, ranked-unlimited, never-past}
 use Rattle.jobs.proofs.Counting.{first-reached, in-rounds}
 use Rattle.whole.proofs.Complete.BallotRecord.{exponent-read, ranking-read}
 use Rattle.jobs.proofs.Positions.{round-is, round-same}
@@ -103,7 +103,7 @@ module _ (hash : List ℕ → List ℕ) (job : Job) (f : Fine hash job) where
   long = omega (arith, length-append (job .label) later, f .labelled)
 
   sizes-kept : sizes ranked (header s .n) (header s .K) ≡ true
-  sizes-kept = rw (header-same, le-leb 2 (job .n) (f .n-low), le-leb (job .n) 8 (f .n-high), le-leb 1 (job .K) (f .K-low), le-leb (job .K) 1000 (f .K-high))
+  sizes-kept = rw header-same (sizes-in ranked (job .n) (job .K) (f .n-low) (f .n-high) (f .K-low) (f .K-high))
 
   header-kept : HeaderRules hash ranked s
   header-kept =

@@ -1,7 +1,7 @@
 -- The refusals of the checker and of the writer name what is there.
 use Prim.Native.Nat.{ℕ, zero, suc, _+_, _*_, _-_, _≤_}
 use mathlib.Core.Path.{_≡_, refl, sym, ap, _∙_}
-use mathlib.Core.Bool.{Bool, true, false, not, true≢false, and-eq-true-iff}
+use mathlib.Core.Bool.{Bool, true, false, not, true≢false}
 use mathlib.Core.List.{List, [], _∷_, _++_, append-assoc}
 use mathlib.Core.Logic.{_⊎_, inl, inr}
 use mathlib.Core.Option.{Option, none, some}
@@ -9,7 +9,7 @@ use native.Mathlib.Nat.{mul-le-mul-right}
 use native.Mathlib.Omega.{arith}
 use lib.Dec.{leb, eqb}
 use lib.ListN.{length, length-append}
-use borrow.Author.Tests.{leb-true, eqb-true, eqb-false, eq-eqb, ne-eqb, not-true, not-false}
+use borrow.Author.Tests.{eqb-true, eqb-false, eq-eqb, ne-eqb, not-true, not-false}
 use Rattle.rules.specs.Count.{Result, countsOf, countFrom, plainCount, member, Standing, start, next, closes, isRanking}
 use Rattle.jobs.specs.Job.{Job, rankingOf}
 use Rattle.jobs.specs.Write.{rankingsGood, jobFault, firstBad, badRanking, jobRefused, writeOutcome}
@@ -28,7 +28,7 @@ use Rattle.numbers.proofs.Tests.{by-cases, or-false-left, and-true, all-true}
 use Rattle.jobs.proofs.FineJob.{valid, no-refusal}
 use Rattle.rules.proofs.Faults.{fault-none, fault-is, Faulty, first-faulty}
 use Rattle.rules.proofs.Leaving.{not-last}
-use Rattle.rules.proofs.Limits.{ranked-unlimited, five-tests, pastLimits, small-verdict}
+use Rattle.rules.proofs.Limits.{sizes-bounds, ranked-unlimited, five-tests, pastLimits, small-verdict}
 use Rattle.rules.proofs.Positions.{position-first, number-next, number-up, number-first, number-later, few-counted}
 use Rattle.whole.proofs.Rules.{header-rules}
 use Rattle.whole.proofs.Sound.Accepted.{header-good}
@@ -177,7 +177,7 @@ few-rankings : (hash : List ℕ → List ℕ) (job : Job) (room : ℕ) → jobFa
 unfolding jobFault firstFault
 few-rankings hash job room z =
     by-cases (sizes ranked (job .n) (job .K))
-    (λ e. let w = simp and-eq-true-iff at e in leb-true (job .K) 1000 (w .1))
+    (λ e. sizes-bounds ranked (job .n) (job .K) e .3)
     (λ e. absurd (omega (arith, rw e at z)))
 
 job-named : (hash : List ℕ → List ℕ) (job : Job) (room : ℕ) → (jobFault hash job room ≡ 0 → ⊥) → JobRefusal job (jobFault hash job room) (badRanking job (jobFault hash job room))

@@ -1,8 +1,8 @@
 -- The screen's entry to the checker: 23, and what follows of the demands.
-use Prim.Native.Nat.{ℕ, zero, suc, _+_, _≤_, _<_}
+use Prim.Native.Nat.{ℕ, zero, suc, _≤_}
 use mathlib.Core.Path.{_≡_, refl, sym, ap, subst, _∙_}
 use mathlib.Core.Bool.{true, false, true≢false, false≢true, and-eq-true-iff}
-use mathlib.Core.List.{List, [], _∷_}
+use mathlib.Core.List.{List, _∷_}
 use mathlib.Core.Logic.{_↔_, _⊎_, inl, inr, ⊎-elim}
 use native.Mathlib.Omega.{arith}
 use lib.Dec.{leb}
@@ -19,7 +19,7 @@ use Rattle.rules.specs.Notice.{textRefused, textOutcome}
 use Rattle.rules.specs.declared.Model.{Model}
 use Rattle.rules.proofs.Faults.{fault-none, fault-is, fault-cases}
 use Rattle.rules.proofs.Positions.{number-first, number-later}
-use Rattle.rules.proofs.Limits.{ranked-unlimited, five-tests, pastLimits, small-verdict}
+use Rattle.rules.proofs.Limits.{sizes-bounds, sizes-in, ranked-unlimited, five-tests, pastLimits, small-verdict}
 use Rattle.jobs.specs.Job.{Job, plainResult}
 use Rattle.jobs.specs.Board.{board}
 use Rattle.jobs.specs.Write.{Valid}
@@ -53,25 +53,27 @@ module _ (s : List ℕ) where
   past-told : pastLimits s ≡ true → PastLimits s
   unfolding pastLimits
   past-told e =
-      let w = simp and-eq-true-iff at e in
-      let r = w .0 .1 in
+      let w = and-eq-true-iff _ _ .0 e in
+      let v = and-eq-true-iff _ _ .0 (w .0) in
+      let u = and-eq-true-iff _ _ .0 (v .0) in
+      let (low, high, some, few) = sizes-bounds ranked (header s .n) (header s .K) (v .1) in
       record {
-        fits = leb-true _ _ (w .0 .0 .0);
-        marked = and-true (w .0 .0 .1 .0) (w .0 .0 .1 .1);
-        low = leb-true 2 _ (r .0 .0 .0);
-        high = leb-true _ 8 (r .0 .0 .1);
-        some = leb-true 1 _ (r .0 .1);
-        few = leb-true _ 1000 (r .1);
+        fits = leb-true headerLength (length s) (u .0);
+        marked = u .1;
+        low = low;
+        high = high;
+        some = some;
+        few = few;
         past = past-of (header s .n) (header s .K) (not-true _ (w .1));
       }
 
-  sizes-in : PastLimits s → sizes ranked (header s .n) (header s .K) ≡ true
-  sizes-in w = and-true (and-true (and-true (le-leb 2 _ (w .low)) (le-leb _ 8 (w .high))) (le-leb 1 _ (w .some))) (le-leb _ 1000 (w .few))
+  in-range : PastLimits s → sizes ranked (header s .n) (header s .K) ≡ true
+  in-range w = sizes-in ranked (header s .n) (header s .K) (w .low) (w .high) (w .some) (w .few)
 
   past-tests : PastLimits s → pastLimits s ≡ true
   unfolding pastLimits
   past-tests w =
-      and-true (and-true (and-true (le-leb headerLength (length s) (w .fits)) (w .marked)) (sizes-in w)) (rw (limits-past (header s .n) (header s .K) (w .past)))
+      and-true (and-true (and-true (le-leb headerLength (length s) (w .fits)) (w .marked)) (in-range w)) (rw (limits-past (header s .n) (header s .K) (w .past)))
 
   not-past : (PastLimits s → ⊥) → pastLimits s ≡ false
   not-past f = by-cases (pastLimits s) (λ e. absurd (f (past-told e))) (λ e. e)
@@ -137,7 +139,7 @@ module _ (hash : List ℕ → List ℕ) where
         λ t ts e l. fault-cases P t ts (λ f. absurd (true≢false (sym e ∙ f))) (λ _. l) in
         let later : (t : Test) (ts : List Test) → P (t .refusal) → P (firstFault ts) → P (firstFault (t ∷ ts)) = λ t ts l. fault-is P t ts (λ _. l) in
         subst P (sym (five-tests hash s ranked ranked-unlimited))
-        (holds _ _ (le-leb headerLength (length s) (w .fits)) (holds _ _ (w .marked) (holds _ _ (sizes-in s w) (later _ _ (λ z. omega arith) (later _ _ (λ z. omega arith)
+        (holds _ _ (le-leb headerLength (length s) (w .fits)) (holds _ _ (w .marked) (holds _ _ (in-range s w) (later _ _ (λ z. omega arith) (later _ _ (λ z. omega arith)
         (rw fault-none (λ z. omega arith)))))))
 
     earlier : (refusal : ℕ) → refusal ≤ 3 → checkBoard hash s ≡ refused refusal 0 → PastLimits s → ⊥

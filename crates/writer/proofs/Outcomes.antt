@@ -16,7 +16,7 @@ use Rattle.jobs.specs.Job.{Job, kindOf, roundDraws, needed, boardLength, plainR
 use Rattle.jobs.specs.Write.{drawsGood, roundsDifferent, noRepeat, jobFault, jobRefused, writeOutcome, writeOutput, Passed, Valid}
 use Rattle.jobs.specs.Replies.{outcomeOf, orderWritten}
 use Rattle.jobs.specs.declared.Written.{Written}
-use Rattle.parameters.proofs.Rules.{sizes-bounds}
+use Rattle.rules.proofs.Limits.{sizes-bounds}
 use Rattle.count.specs.State.{resultOf, Kept}
 use Rattle.count.specs.declared.Ended.{Ended}
 use Rattle.plain.specs.declared.rounds.Measure.{Measure}

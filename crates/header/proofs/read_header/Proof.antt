@@ -9,7 +9,8 @@ use Rattle.group.specs.Elements.{parametersOf}
 use Rattle.rules.specs.Bytes.{part}
 use Rattle.rules.specs.Group.{orders, generators}
 use Rattle.rules.specs.Header.{sizes, limits, counterField}
-use Rattle.parameters.proofs.Rules.{orders-positive, sizes-bounds}
+use Rattle.rules.proofs.Limits.{sizes-bounds}
+use Rattle.parameters.proofs.Rules.{orders-positive}
 use Rattle.header.specs.Heads.{HeaderReads}
 use Rattle.header.proofs.HeaderTable.{Shown, too-short, wrong-mark, wrong-sizes, past-limits, wrong-orders, wrong-generators, sound-header, header-is}
 use Rattle.header.proofs.read_header.Statement.{statement}

@@ -12,7 +12,8 @@ use Rattle.rules.specs.Header.{ranked, sizes}
 use Rattle.rules.specs.declared.Model.{Model}
 use Rattle.jobs.specs.Job as J
 use Rattle.jobs.specs.Write.{labelGood, rankingsGood, kindsGood, firstBad}
-use Rattle.parameters.proofs.Rules.{orders-positive, sizes-bounds}
+use Rattle.rules.proofs.Limits.{sizes-bounds}
+use Rattle.parameters.proofs.Rules.{orders-positive}
 use Rattle.validity.specs.Jobs.{jobOf}
 use Rattle.validity.specs.Tests.{JobTested}
 use Rattle.validity.proofs.Tests.{group-positive, label-is, well-ranked, stops-sizes, stops-orders, stops-label, stops-length, stops-ranking, kinds-many, none-counted, some-counted, stops-kinds, stops-uncounted}

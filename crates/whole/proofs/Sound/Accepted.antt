@@ -4,7 +4,7 @@ use mathlib.Core.Path.{_≡_, _∙_}
 use mathlib.Core.Bool.{cond, and-eq-true-iff}
 use mathlib.Core.List.{List}
 use lib.ListN.{getD}
-use borrow.Author.Tests.{leb-true, eqb-true}
+use borrow.Author.Tests.{eqb-true}
 use Rattle.numbers.specs.Below.{sumBelow}
 use Rattle.numbers.proofs.Sums.{sum-same, sum-zero}
 use Rattle.numbers.proofs.Tests.{by-cases}
@@ -13,6 +13,7 @@ use Rattle.rules.specs.Header.{ranked, Header, header}
 use Rattle.rules.specs.Check.{place, kind}
 use Rattle.whole.specs.Rules.{HeaderRules}
 use Rattle.whole.specs.SecondDemand.{RecordRules, RoundSheetRules}
+use Rattle.rules.proofs.Limits.{sizes-bounds}
 use Rattle.rules.proofs.Orders.{Orders, Generators, orders-of-test, generators-of-test}
 
 module _ (hash : List ℕ → List ℕ) (s : List ℕ) where
@@ -26,13 +27,13 @@ module _ (hash : List ℕ → List ℕ) (s : List ℕ) where
 
   pub header-good : HeaderRules hash ranked s → GoodHeader (header s)
   header-good w =
-      let ranges = simp and-eq-true-iff at (w .sized) in
+      let (two, eight, one, thousand) = sizes-bounds ranked (header s .n) (header s .K) (w .sized) in
       let o = orders-of-test _ _ _ _ (w .ordered) in
       record {
-        two = leb-true 2 _ (ranges .0 .0 .0);
-        eight = leb-true _ 8 (ranges .0 .0 .1);
-        one = leb-true 1 _ (ranges .0 .1);
-        thousand = leb-true _ 1000 (ranges .1);
+        two = two;
+        eight = eight;
+        one = one;
+        thousand = thousand;
         orders = o;
         generators = generators-of-test hash _ _ _ o (w .generated);
       }
