@@ -19,7 +19,7 @@ use statements::Setup;
 use statements::claims::Claim;
 
 // A ballot: its number and kind, the process of each row, and where its record's draws start.
-#[derive(Drop)]
+#[derive(Clone, Copy)]
 pub struct Ballot {
     pub n: usize,
     pub number: u32,

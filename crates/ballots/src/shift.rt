@@ -15,7 +15,7 @@ use statements::{Setup, claims};
 
 // A shift: its round, from 1, its ballot's number, the processes of the rows before and after, the row struck, the column gone out, and where the draws of the
 // two records start.
-#[derive(Drop)]
+#[derive(Clone, Copy)]
 pub struct Shift {
     pub n: usize,
     pub rows: usize,

@@ -4,7 +4,7 @@ ghost use Rattle.boardcheck.specs.Inputs.{Fits, Moves};
 
 // What reading to the end comes to: so many bytes and then the end; more bytes than there is room for; or a read that failed, after which nothing is
 // known of the input.
-#[derive(Drop)]
+#[derive(Clone, Copy)]
 pub enum Input {
     Whole(usize),
     Long,
@@ -12,7 +12,7 @@ pub enum Input {
 }
 
 // What one read comes to.
-#[derive(Drop)]
+#[derive(Clone, Copy)]
 enum Step {
     More(usize),
     End,

@@ -1,4 +1,5 @@
 // The board of a job, record by record, each into the unwritten rest of a lent output.
+#![tactic(auto)]
 use statements::Setup;
 
 mod header;
@@ -7,7 +8,7 @@ pub mod rounds;
 mod sheet;
 
 // What a board's header shows: its size, the counter that made its g1, and its group.
-#[derive(Drop)]
+#[derive(Clone, Copy)]
 pub struct Head {
     pub n: usize,
     pub k: usize,

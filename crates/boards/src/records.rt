@@ -19,7 +19,7 @@ use plain::{rankings, rounds};
 
 // A round, from 0: those gone out before the round before it and before it, the last of them, where the draws of the two rounds start, who goes out in it and its
 // sheet.
-#[derive(Drop)]
+#[derive(Clone, Copy)]
 pub struct RoundPlan {
     pub m: usize,
     pub before: Gone,
@@ -32,7 +32,7 @@ pub struct RoundPlan {
 }
 
 // Ballot b, from 0, in a round, and where the draws of its record in the round before and of its new one start.
-#[derive(Drop)]
+#[derive(Clone, Copy)]
 pub struct Turn {
     pub plan: RoundPlan,
     pub b: usize,

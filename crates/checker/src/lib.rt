@@ -1,4 +1,5 @@
 // The checker of a board: the rounds in order, the verdict and the count.
+#![tactic(auto)]
 ghost use Rattle.std.specs.Prelude.{◌≡◌, ◌+◌, ◌<◌};
 ghost use Rattle.sha256.specs.Message.{sha256};
 ghost use Rattle.rules.specs.Records.{header_length};
@@ -24,7 +25,7 @@ use rules::{Answer, Checked, Model, Refusal};
 
 // The answer to a board; of an accepted one the count that its sheets came to and the number of processes, of a refused one the standing count of the
 // round that was refused, and 0.
-#[derive(Drop)]
+#[derive(Clone, Copy)]
 pub struct Counted {
     pub answer: Answer,
     pub n: usize,

@@ -1,30 +1,31 @@
 // The standing count by value: each sheet takes it and hands back the next.
+#![tactic(auto)]
 ghost use Rattle.std.specs.Prelude.{◌≡◌, ℕ, ◌+◌, ◌*◌, ◌≤◌, ◌<◌, take};
 ghost use Rattle.rules.specs.Count.{member, start, ended, fewer, behind, leaves, wins, closes, majority};
 ghost use Rattle.count.specs.State.{counts_by, counts_on, list_of, standing_of, result_of, went_out, Listed, Kept, replaces, picked, pick_of, passes};
 
 // The counts of a round, by process.
-#[derive(Drop)]
+#[derive(Clone, Copy)]
 pub struct Sheet {
     pub counts: [u32; 8],
 }
 
 // How many have gone out, and who, in order, with zeros up to 8.
-#[derive(Drop)]
+#[derive(Clone, Copy)]
 pub struct Gone {
     pub outs: usize,
     pub order: [u8; 8],
 }
 
 // Those gone out, and the sheets of as many rounds.
-#[derive(Drop)]
+#[derive(Clone, Copy)]
 pub struct Count {
     pub gone: Gone,
     pub sheets: [Sheet; 8],
 }
 
 // A count that has ended, with the sheet of its last round beside the others, and the winner.
-#[derive(Drop)]
+#[derive(Clone, Copy)]
 pub struct Ended {
     pub count: Count,
     pub winner: usize,

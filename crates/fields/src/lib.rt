@@ -1,4 +1,5 @@
 // The fields of a record: numbers of 2 and 4 bytes, high byte first; elements, exponents and counts, tested as they are read; products of words; a digest as a challenge and as an element.
+#![tactic(auto)]
 ghost use Rattle.std.specs.Prelude.{◌≡◌, ℕ, ◌+◌, ◌*◌, ◌%◌, ◌≤◌, ◌<◌, length};
 ghost use Rattle.numbers.specs.Below.{prod_below};
 ghost use Rattle.rules.specs.Bytes.{number2, number4, number8};
@@ -8,21 +9,21 @@ ghost use Rattle.fields.specs.Answers.{element_at, exponent_at, count_at};
 use group::{Element, Exponent};
 
 // What reading an element finds: it and the place after it, or that the number is no element.
-#[derive(Drop)]
+#[derive(Clone, Copy)]
 pub enum ElementField {
     Value(Element, usize),
     Refused,
 }
 
 // What reading an exponent finds: it and the place after it, or that the number is not below q.
-#[derive(Drop)]
+#[derive(Clone, Copy)]
 pub enum ExponentField {
     Value(Exponent, usize),
     Refused,
 }
 
 // What reading a count finds: it and the place after it, or that the number is above the most that it may be.
-#[derive(Drop)]
+#[derive(Clone, Copy)]
 pub enum CountField {
     Value(u32, usize),
     Refused,

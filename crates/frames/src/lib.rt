@@ -1,4 +1,5 @@
 // The frame of a record: its length, mark, and number or round.
+#![tactic(auto)]
 ghost use Rattle.std.specs.Prelude.{◌≡◌, ◌+◌, ◌≤◌, ◌<◌, length, get_or};
 ghost use Rattle.rules.specs.Bytes.{number2};
 ghost use Rattle.rules.specs.Records.{SH, RT, has_mark, kind_at, shift_length, sheet_length};
@@ -7,7 +8,7 @@ ghost use Rattle.frames.specs.Framed.{Begun, Framed, BallotFramed};
 use rules::Refusal;
 
 // What some tests of a record find.
-#[derive(Drop)]
+#[derive(Clone, Copy)]
 pub enum Fault {
     Sound,
     Refused(Refusal),

@@ -1,4 +1,5 @@
 // The header of a board.
+#![tactic(auto)]
 ghost use Rattle.std.specs.Prelude.{◌≡◌, ◌≤◌, length};
 ghost use Rattle.group.specs.Elements.{parameters_of};
 ghost use Rattle.rules.specs.Records.{header_length};
@@ -10,14 +11,14 @@ use rules::{Model, Refusal};
 use statements::Setup;
 
 // What is read from a sound header.
-#[derive(Drop)]
+#[derive(Clone, Copy)]
 pub struct Head {
     pub n: usize,
     pub k: usize,
     pub setup: Setup,
 }
 
-#[derive(Drop)]
+#[derive(Clone, Copy)]
 pub enum HeaderRead {
     Board(Head),
     Refused(Refusal),

@@ -6,7 +6,7 @@ use testing::input;
 use testing::input::Piece;
 
 // Where the pieces of a frame end.
-#[derive(Drop)]
+#[derive(Clone, Copy)]
 pub struct Ends {
     pub name: usize,
     pub label: usize,
@@ -15,14 +15,14 @@ pub struct Ends {
     pub draws: usize,
 }
 
-#[derive(Drop)]
+#[derive(Clone, Copy)]
 pub enum Frame {
     Job(Ends),
     Missing,
 }
 
 // The numbers of a frame: those of a job, and the length of its output.
-#[derive(Drop)]
+#[derive(Clone, Copy)]
 pub struct Numbers {
     pub n: usize,
     pub k: usize,

@@ -1,7 +1,8 @@
 // The writer's answer. What is written is a definition, in specs/; specs/Replies.antt gives the number and the values of each case.
+#![tactic(auto)]
 use rules::Refusal;
 
-#[derive(Drop)]
+#[derive(Clone, Copy)]
 pub enum Reply {
     Board {
         length: usize,
@@ -16,7 +17,7 @@ pub enum Reply {
 }
 
 // The reply, and beside it the order of going out with zeros up to 8.
-#[derive(Drop)]
+#[derive(Clone, Copy)]
 pub struct Written {
     pub reply: Reply,
     pub order: [u8; 8],

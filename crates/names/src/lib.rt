@@ -1,4 +1,5 @@
 // The names of processes as they are lent: each is 1 to 20 letters with a line feed after it.
+#![tactic(auto)]
 ghost use Rattle.std.specs.Prelude.{◌≡◌, false, not, ◌&&◌, ◌+◌, ◌≤◌, leb, eqb, length, get_or};
 ghost use Rattle.numbers.specs.Below.{all_below};
 ghost use Rattle.rules.specs.Receipts.{same};
@@ -6,7 +7,7 @@ ghost use Rattle.rules.specs.Notice.{is_letter, letters_at, name_of};
 ghost use Rattle.names.specs.Lent.{Started, NamesTold};
 
 // Whether names are good, and where the name of each process starts, and past the line feed after the last.
-#[derive(Drop)]
+#[derive(Clone, Copy)]
 pub struct Names {
     pub good: bool,
     pub starts: [usize; 9],

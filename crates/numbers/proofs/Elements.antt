@@ -27,6 +27,7 @@ module _ {p q : ℕ} where
 
 -- what is an element
 pub element_of_root : (p q x : ℕ) → 2 ≤ p → 1 ≤ q → Root p q x → Element p q (x % p)
+element_of_root p zero x l h r = elim h [ ]
 element_of_root p (suc k) x l _ r =
     record {
       low = pos_of_ne-zero (λ z. one_not_zero l (same_trans (same_sym r.root) (zero z)));

@@ -1,5 +1,5 @@
 -- Powers of the q-th roots of 1 modulo p: their exponents count modulo q, and for a prime q they are told apart by them.
-use Prim.Native.Nat.{ℕ, suc, ◌+◌, ◌*◌, ◌-◌, ◌/◌, ◌%◌, ◌^◌, ◌≤◌, ◌<◌}
+use Prim.Native.Nat.{ℕ, zero, suc, ◌+◌, ◌*◌, ◌-◌, ◌/◌, ◌%◌, ◌^◌, ◌≤◌, ◌<◌}
 use mathlib.Core.Path.{◌≡◌, sym, ap, ◌∙◌}
 use native.Mathlib.Nat.{mul-one, mul_comm, mul_left_comm, mod-mod, pow-succ'}
 use native.Mathlib.Numerals.{sub-one}
@@ -14,6 +14,7 @@ abbrev pub minus : (q a b : ℕ) → ℕ
 minus q a b = a + b * (q - 1)
 
 pub minus_zero : (q a b : ℕ) → 1 ≤ q → Same q (minus q a b) 0 → Same q a b
+minus_zero zero a b l h = elim l [ ]
 minus_zero (suc n) a b l h =
     same_trans (from_multiples b 0 (omega arith)) (same_trans (add_same (rw sub-one at h) (same_refl b)) (same_eq (omega arith)))
 

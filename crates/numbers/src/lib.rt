@@ -1,4 +1,6 @@
 // Numbers of one width as numbers of another; all else is theory, the definitions in specs/, the laws in proofs/.
+#![tactic(auto)]
+
 ghost use Rattle.std.specs.Prelude.{◌≡◌, ◌<◌};
 
 // A byte as an index.

@@ -11,7 +11,7 @@ use crate::{kinds, votes};
 use count::{Count, Ended};
 
 // The draws that a board needs, and its length.
-#[derive(Drop)]
+#[derive(Clone, Copy)]
 pub struct Measure {
     pub needed: usize,
     pub length: usize,

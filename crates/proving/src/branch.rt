@@ -26,7 +26,7 @@ pub fn branch_draws(plan: Plan, l: usize) -> usize
 }
 
 // Branch l of a plan, and where its draws start.
-#[derive(Drop)]
+#[derive(Clone, Copy)]
 pub struct Branch {
     pub plan: Plan,
     pub l: usize,

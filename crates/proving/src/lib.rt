@@ -1,5 +1,6 @@
 // A proof made in its place on the board by one who knows the witness of one branch: the statements are fed to the hash with their commitments as these arise, and the
 // true branch's challenge and responses are written last.
+#![tactic(auto)]
 ghost use Rattle.std.specs.Prelude.{◌≡◌, ℕ, ◌+◌, ◌*◌, ◌^◌, ◌≤◌, ◌<◌, List, ◌++◌, length};
 ghost use Rattle.sha256.specs.Feed.{Fed};
 ghost use Rattle.group.specs.Elements.{parameters_of};
@@ -19,7 +20,7 @@ mod branch;
 mod statement;
 
 // A proof to be made: its size, the branch whose witness is known, where its draws start, and what it claims.
-#[derive(Drop)]
+#[derive(Clone, Copy)]
 pub struct Plan {
     pub branches: usize,
     pub statements: usize,
@@ -29,7 +30,7 @@ pub struct Plan {
 }
 
 // One who makes it, and knows the witnesses of the known branch: they stand first among the 64.
-#[derive(Drop)]
+#[derive(Clone, Copy)]
 pub struct Maker {
     pub plan: Plan,
     pub witness: [Exponent; 64],

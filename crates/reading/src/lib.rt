@@ -1,12 +1,13 @@
 // A lent board and its next unread place, together: what a board is read with. The functions over it are few and leave the work to others, on a
 // plain slice and a place: their proofs follow the code by hand, step by step.
+#![tactic(auto)]
 ghost use Rattle.std.specs.Prelude.{◌≡◌, ◌≤◌, length, drop};
 ghost use Rattle.header.specs.Heads.{HeaderReads};
 
 use header::HeaderRead;
 use rules::Model;
 
-#[derive(Drop)]
+#[derive(Clone, Copy)]
 pub struct Reading<'a> {
     pub board: &'a [u8],
     pub next: usize,

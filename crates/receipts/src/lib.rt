@@ -1,4 +1,5 @@
 // Finding many receipts in one walk of the ballots: for each of up to 500 digests the number of the ballot whose record has it.
+#![tactic(auto)]
 ghost use Rattle.std.specs.Prelude.{◌≡◌, ◌+◌, ◌≤◌, length, take, drop, replicate};
 ghost use Rattle.sha256.specs.Message.{sha256};
 ghost use Rattle.rules.specs.Bytes.{part};
@@ -15,14 +16,14 @@ use reading::Reading;
 use rules::{Found, Model, Refusal};
 
 // What the walk of the ballots comes to: none is refused; or why, and the record's number.
-#[derive(Drop)]
+#[derive(Clone, Copy)]
 pub enum Walk {
     Sound,
     Refused(Refusal, usize),
 }
 
 // What is read of a ballot's record: that its frame is sound, the place after it, and its digest; or the fault, the same place, and zeros.
-#[derive(Drop)]
+#[derive(Clone, Copy)]
 pub struct Hashed {
     pub fault: Fault,
     pub next: usize,

@@ -1,5 +1,6 @@
 // The BA and SH records, each with its tests in the table's order: the frame (1, 2, 6; of BA 17), the fields (7), the proofs (8), and what an
 // audited BA shows (18).
+#![tactic(auto)]
 ghost use Rattle.std.specs.Prelude.{◌≡◌, ℕ, ◌+◌, ◌*◌, ◌≤◌, ◌<◌, ◌++◌, length};
 ghost use Rattle.sha256.specs.Feed.{Fed};
 ghost use Rattle.sha256.specs.Message.{sha256};
@@ -25,7 +26,7 @@ pub mod ballot;
 pub mod shift;
 
 // What the tests of a BA or SH record come to: the place after it, or the refusal.
-#[derive(Drop)]
+#[derive(Clone, Copy)]
 pub enum Passed {
     To(usize),
     Refused(Refusal),

@@ -1,4 +1,5 @@
 // One round: what a ballot has in it, what is carried from ballot to ballot, and its end with its sheet.
+#![tactic(auto)]
 ghost use Rattle.std.specs.Prelude.{◌≡◌, cond, ℕ, suc, ◌+◌, ◌*◌, ◌^◌, ◌≤◌, ◌<◌, length};
 ghost use Rattle.rules.specs.Records.{kind_at, is_counted, pairs_from, record_length};
 ghost use Rattle.rules.specs.Header.{ranked};
@@ -19,7 +20,7 @@ use sheets::tally::Tally;
 
 // Round m, from 0, and the number of its first record. In the round before, whose ballots' records start at before, process a went out; in
 // round 0 these are 0.
-#[derive(Drop)]
+#[derive(Clone, Copy)]
 pub struct Round {
     pub m: usize,
     pub number: usize,
@@ -55,7 +56,7 @@ impl Round {
 
 // What the ballots' records of a round come to: the first refusal, or none; the place and the number of the record refused, or of the sheet;
 // and the products of the first rows of counted ballots, each a group::Element.
-#[derive(Drop)]
+#[derive(Clone, Copy)]
 pub struct RecordsRead {
     pub fault: Fault,
     pub next: usize,
@@ -65,7 +66,7 @@ pub struct RecordsRead {
 
 // What a round comes to: the process that goes out, and the place and the number of the record after the round; the winner; or the refusal and
 // the record's number.
-#[derive(Drop)]
+#[derive(Clone, Copy)]
 pub enum RoundOutcome {
     Open(usize, usize, usize),
     Closed(usize),
@@ -74,7 +75,7 @@ pub enum RoundOutcome {
 
 // It, and the standing count that the round's sheet hands back: the next; the one before, with the sheet kept, where it closes the board; or the
 // one before.
-#[derive(Drop)]
+#[derive(Clone, Copy)]
 pub struct RoundRead {
     pub outcome: RoundOutcome,
     pub count: Count,
@@ -82,7 +83,7 @@ pub struct RoundRead {
 
 // How far a round is read, beside the next unread place: the ballot that is next, from 0; the number of its record in the round; where its record
 // of the round before starts, 0 in round 0, and its BA; and the products of the first rows so far.
-#[derive(Drop)]
+#[derive(Clone, Copy)]
 pub struct Walk {
     pub k: usize,
     pub number: usize,

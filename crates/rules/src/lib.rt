@@ -1,9 +1,10 @@
 // The answers of the checker, of the search for receipts and of the count in sentences, and the kinds of boards. The rules themselves are definitions, in specs/; specs/Answers.antt gives the number and the values of each case.
+#![tactic(auto)]
 ghost use Rattle.std.specs.Prelude.{◌≡◌};
 ghost use Rattle.rules.specs.Answers.{refusal_number};
 
 // Why a board, a job, a list of digests or a list of names is refused.
-#[derive(Drop)]
+#[derive(Clone, Copy)]
 pub enum Refusal {
     // 1: bytes left are fewer than the record's length.
     Length,
@@ -83,7 +84,7 @@ pub fn refusal_number(r: Refusal) -> usize
 
 // A kind of board: the mark of its header; what 3 tests, the least and the most processes, and the most ballots; and what 23 tests after that, how many
 // processes are shown, and how many ballots stored.
-#[derive(Drop)]
+#[derive(Clone, Copy)]
 pub struct Model {
     pub mark: [u8; 2],
     pub least: usize,
@@ -93,28 +94,28 @@ pub struct Model {
     pub stores: usize,
 }
 
-#[derive(Drop)]
+#[derive(Clone, Copy)]
 pub enum Answer {
     Accepted { rounds: usize, winner: usize },
     Refused { refusal: Refusal, record: usize },
 }
 
 // The answer, and beside it the order of going out with zeros up to 8.
-#[derive(Drop)]
+#[derive(Clone, Copy)]
 pub struct Checked {
     pub answer: Answer,
     pub order: [u8; 8],
 }
 
 // The answer to digests: each one's ballot number is in the lent list; or why the list is as it was.
-#[derive(Drop)]
+#[derive(Clone, Copy)]
 pub enum Found {
     Listed,
     Refused { refusal: Refusal, record: usize },
 }
 
 // The answer to names: the length of the text at the front of the lent output; or why the output is as it was.
-#[derive(Drop)]
+#[derive(Clone, Copy)]
 pub enum Told {
     Text { length: usize },
     Refused { refusal: Refusal, record: usize },

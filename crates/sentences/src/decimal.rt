@@ -6,7 +6,7 @@ ghost use Rattle.sentences.specs.Pieces.{DigitsOf, Put};
 use crate::parts;
 
 // The digits of a number stand at the end of 10 places, from one on.
-#[derive(Drop)]
+#[derive(Clone, Copy)]
 pub struct Digits {
     pub places: [u8; 10],
     pub from: usize,

@@ -1,4 +1,5 @@
 // The count in sentences: a line a round, measured and written.
+#![tactic(auto)]
 ghost use Rattle.std.specs.Prelude.{◌≡◌, ◌≤◌, length};
 ghost use Rattle.output.specs.Written.{written};
 ghost use Rattle.sentences.specs.Lines.{Ready, text_named};
@@ -11,7 +12,7 @@ mod lines;
 mod parts;
 
 // A count of n processes that has ended, and where their names start.
-#[derive(Drop)]
+#[derive(Clone, Copy)]
 pub struct Named {
     pub n: usize,
     pub starts: [usize; 9],

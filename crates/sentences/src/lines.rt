@@ -9,7 +9,7 @@ use crate::{Named, counts, parts};
 use count::{Ended, Gone, Sheet};
 
 // What a round's line tells: those gone out before it, its counts, and whether it is the last; who, from 0, leaves or wins.
-#[derive(Drop)]
+#[derive(Clone, Copy)]
 pub struct Line {
     pub gone: Gone,
     pub sheet: Sheet,

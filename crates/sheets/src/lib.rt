@@ -1,4 +1,5 @@
 // The RT record.
+#![tactic(auto)]
 ghost use Rattle.std.specs.Prelude.{◌≡◌, ◌+◌, ◌≤◌, ◌<◌, length, get_or};
 ghost use Rattle.numbers.specs.Below.{all_below};
 ghost use Rattle.group.specs.Elements.{parameters_of};
@@ -22,7 +23,7 @@ use rules::Refusal;
 pub mod tally;
 
 // What a sheet comes to: the refusal; the winner, where it closes the board; or the process that goes out.
-#[derive(Drop)]
+#[derive(Clone, Copy)]
 pub enum Outcome {
     Refused(Refusal),
     Closed(usize),
@@ -31,7 +32,7 @@ pub enum Outcome {
 
 // It, the standing count that the sheet hands back (the next; the one that it took, with the sheet kept, where it closes the board; or the
 // one that it took), and the place after the sheet.
-#[derive(Drop)]
+#[derive(Clone, Copy)]
 pub struct Step {
     pub outcome: Outcome,
     pub count: Count,
@@ -39,7 +40,7 @@ pub struct Step {
 }
 
 // What is read of a sheet: the first refusal, and the counts and the exponents s by process.
-#[derive(Drop)]
+#[derive(Clone, Copy)]
 struct SheetFields {
     fault: Fault,
     sheet: Sheet,

@@ -8,7 +8,7 @@ ghost use Rattle.sheets.specs.Tallies.{Tallied};
 use group::Element;
 use header::Head;
 
-#[derive(Drop)]
+#[derive(Clone, Copy)]
 pub struct Tally {
     pub b: [Element; 8],
     pub y: [Element; 8],

@@ -11,7 +11,7 @@ use crate::{Setup, Statement};
 use group::{Element, Exponent};
 
 // Which proof, over pairs that stand on the board: b at a place, Y four bytes past it.
-#[derive(Drop)]
+#[derive(Clone, Copy)]
 pub enum Claim {
     // The pair at a place is of 0 or of 1.
     Entry {
@@ -50,7 +50,7 @@ fn claimed_entry(s: &[u8], g: Setup, at: usize, l: usize) -> Statement
 }
 
 // A line of a matrix: the pair that it starts with, and how far each is past the one before.
-#[derive(Drop)]
+#[derive(Clone, Copy)]
 pub struct Line {
     pub start: usize,
     pub stride: usize,
@@ -99,7 +99,7 @@ pub fn source_of(n: usize, l: usize, t: usize) -> usize
 }
 
 // A shift's matrices: where the one before and the new one start, the rows of the new one, the columns, and the one gone out.
-#[derive(Drop)]
+#[derive(Clone, Copy)]
 struct Struck {
     before: usize,
     new: usize,

@@ -1,4 +1,5 @@
 // Statements: what a proof claims of the matrices on a board, and its check.
+#![tactic(auto)]
 ghost use Rattle.std.specs.Prelude.{◌≡◌, ◌-◌, ◌<◌};
 ghost use Rattle.rules.specs.Proofs.{statement_holds};
 ghost use Rattle.statements.specs.Values.{statement_of, Ready};
@@ -10,7 +11,7 @@ pub mod proof;
 pub mod walks;
 
 // The group, with the inverse of g1 worked out once.
-#[derive(Drop)]
+#[derive(Clone, Copy)]
 pub struct Setup {
     pub group: Group,
     pub inverse: Element,
@@ -27,14 +28,14 @@ impl Setup {
 }
 
 // A pair (A, B) of which some w has A = g0^w and B = g1^w.
-#[derive(Drop)]
+#[derive(Clone, Copy)]
 pub struct Statement {
     pub left: Element,
     pub right: Element,
 }
 
 // What a proof shows for a statement: its commitments and its response.
-#[derive(Drop)]
+#[derive(Clone, Copy)]
 pub struct Shown {
     pub t1: Element,
     pub t2: Element,

@@ -14,7 +14,7 @@ use group::{Element, Exponent};
 use sha256::Hasher;
 
 // The bases of the powers that a proof speaks of.
-#[derive(Drop)]
+#[derive(Clone, Copy)]
 pub struct Bases {
     pub first: Element,
     pub second: Element,
@@ -32,7 +32,7 @@ fn shown_at(board: &[u8], place: usize) -> Shown
 }
 
 // Where a proof stands, its branches, and the statements of each.
-#[derive(Drop)]
+#[derive(Clone, Copy)]
 pub struct Shape {
     pub at: usize,
     pub branches: usize,

@@ -6,7 +6,7 @@ ghost use Rattle.statements.specs.Walks.{walk_if, pair_fields, pairs_fields, exp
 use fields::{ElementField, ExponentField};
 
 // The place after the fields walked, or that one was refused.
-#[derive(Drop)]
+#[derive(Clone, Copy)]
 pub enum Walk {
     To(usize),
     Refused,

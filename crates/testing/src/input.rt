@@ -28,7 +28,7 @@ pub fn read(room: &mut [u8]) -> usize
     n
 }
 
-#[derive(Drop)]
+#[derive(Clone, Copy)]
 pub enum Piece {
     // Where its bytes start and end.
     Bytes(usize, usize),
@@ -55,14 +55,14 @@ pub fn piece_at(s: &[u8], at: usize) -> Piece
 }
 
 // Where the pieces of a case end that asks something of a board: its name, the board, and what is asked. A number of 4 bytes follows.
-#[derive(Drop)]
+#[derive(Clone, Copy)]
 pub struct Ends {
     pub name: usize,
     pub board: usize,
     pub asked: usize,
 }
 
-#[derive(Drop)]
+#[derive(Clone, Copy)]
 pub enum Question {
     Asked(Ends),
     // A piece is cut off, or the number is.

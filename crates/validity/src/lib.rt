@@ -1,4 +1,5 @@
 // The numbers of a job, its tests, and the group that it fixes.
+#![tactic(auto)]
 pub mod repeats;
 
 ghost use Rattle.std.specs.Prelude.{◌≡◌, ◌&&◌, ◌||◌, List, [], ℕ, ◌<◌, leb, ltb, eqb, length, get_or};
@@ -16,7 +17,7 @@ use plain::{kinds, rankings};
 use rules::Refusal;
 
 // The numbers of a job: of processes and ballots, p, q, g0 and the counter.
-#[derive(Drop)]
+#[derive(Clone, Copy)]
 pub struct Job {
     pub n: usize,
     pub k: usize,
@@ -27,7 +28,7 @@ pub struct Job {
 }
 
 // What the tests up to the kinds come to: the group, or the refusal and the bad ranking.
-#[derive(Drop)]
+#[derive(Clone, Copy)]
 pub enum Tested {
     Sound(Group),
     Refused(Refusal, usize),

@@ -1,4 +1,5 @@
 // The writer: a board made from rankings and draws.
+#![tactic(auto)]
 ghost use Rattle.std.specs.Prelude.{◌≡◌, ◌+◌, ◌≤◌, length, replicate};
 ghost use Rattle.sha256.specs.Message.{sha256};
 ghost use Rattle.rules.specs.Answers.{refusal_number};
@@ -45,7 +46,7 @@ fn board_written(ended: Ended, length: usize) -> Written
 }
 
 // What is to be written: the board's header, the count that has ended, its measure, and whether the x of each matrix differ.
-#[derive(Drop)]
+#[derive(Clone, Copy)]
 struct Board {
     head: Head,
     count: Count,
@@ -54,7 +55,7 @@ struct Board {
 }
 
 // What putting a board comes to: it is written; a matrix repeats an x; or the output is too short.
-#[derive(Drop)]
+#[derive(Clone, Copy)]
 pub enum Put {
     Written,
     Repeat,
