@@ -2,6 +2,7 @@
 //
 // What is proved of the functions here is that they are safe and end; what they hand to the operating system is tested and not proved.
 #![tactic(auto)]
+
 use crate::input::Input;
 use libc::{STDERR_FILENO, STDIN_FILENO, STDOUT_FILENO};
 use rules::Answer;

@@ -1,5 +1,6 @@
 // The board of a job, record by record, each into the unwritten rest of a lent output.
 #![tactic(auto)]
+
 use statements::Setup;
 
 mod header;

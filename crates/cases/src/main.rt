@@ -1,5 +1,6 @@
 // Checks the boards of standard input, and prints a line for each: its name and the verdicts of both entries to the checker.
 #![tactic(auto)]
+
 use rules::{Answer, Checked};
 use testing::input::Piece;
 use testing::{input, print};

@@ -1,5 +1,6 @@
 // The message of a challenge, fed to a hasher as it arises: behind the label the proof's context, then what each statement claims with its commitments.
 #![tactic(auto)]
+
 ghost use Rattle.std.specs.Prelude.{◌≡◌};
 ghost use Rattle.sha256.specs.Stream.{feed};
 ghost use Rattle.sha256.specs.Feed.{stream_of};

@@ -1,5 +1,6 @@
 // FIPS 180-4, 6.2.2: the hash value after one block of 64 bytes.
 #![tactic(auto)]
+
 ghost use Rattle.std.specs.Prelude.{◌≡◌, ◌<◌, length};
 ghost use Rattle.compression.specs.Words.{◌⊞◌, σ₀, σ₁};
 ghost use Rattle.compression.specs.Block.{word, schedule, T₁, T₂, compress};

@@ -1,5 +1,6 @@
 // The standing count by value: each sheet takes it and hands back the next.
 #![tactic(auto)]
+
 ghost use Rattle.std.specs.Prelude.{◌≡◌, ℕ, ◌+◌, ◌*◌, ◌≤◌, ◌<◌, take};
 ghost use Rattle.rules.specs.Count.{member, start, ended, fewer, behind, leaves, wins, closes, majority};
 ghost use Rattle.count.specs.State.{counts_by, counts_on, list_of, standing_of, result_of, went_out, Listed, Kept, replaces, picked, pick_of, passes};

@@ -1,5 +1,6 @@
 // The third demand on running code: what `check`, `check_small` and `write` answer is what the plain count says. Their own contracts are repeated.
 #![tactic(auto)]
+
 ghost use Rattle.std.specs.Prelude.{◌≡◌, length};
 ghost use Rattle.sha256.specs.Message.{sha256};
 ghost use Rattle.rules.specs.Check.{check_board, check_small};

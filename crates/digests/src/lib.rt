@@ -1,5 +1,6 @@
 // Digests of 32 bytes, one after another in a list: their order, byte by byte from the first, and the numbers entered for them.
 #![tactic(auto)]
+
 ghost use Rattle.std.specs.Prelude.{◌≡◌, ◌+◌, ◌*◌, ◌-◌, ◌≤◌, ◌<◌, length};
 ghost use Rattle.numbers.specs.Below.{all_below};
 ghost use Rattle.rules.specs.Receipts.{digest_count, digest_at, not_above, digests_good};

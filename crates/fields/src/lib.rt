@@ -1,5 +1,6 @@
 // The fields of a record: numbers of 2 and 4 bytes, high byte first; elements, exponents and counts, tested as they are read; products of words; a digest as a challenge and as an element.
 #![tactic(auto)]
+
 ghost use Rattle.std.specs.Prelude.{◌≡◌, ℕ, ◌+◌, ◌*◌, ◌%◌, ◌≤◌, ◌<◌, length};
 ghost use Rattle.numbers.specs.Below.{prod_below};
 ghost use Rattle.rules.specs.Bytes.{number2, number4, number8};

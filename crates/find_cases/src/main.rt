@@ -1,5 +1,6 @@
 // Looks up the digests of standard input on the board beside them, and prints a line for each case: its name, the answer, and whether the rest of the list stayed as it was.
 #![tactic(auto)]
+
 mod list;
 
 ghost use Rattle.std.specs.Prelude.{◌≤◌, length};

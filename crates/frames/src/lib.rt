@@ -1,5 +1,6 @@
 // The frame of a record: its length, mark, and number or round.
 #![tactic(auto)]
+
 ghost use Rattle.std.specs.Prelude.{◌≡◌, ◌+◌, ◌≤◌, ◌<◌, length, get_or};
 ghost use Rattle.rules.specs.Bytes.{number2};
 ghost use Rattle.rules.specs.Records.{SH, RT, has_mark, kind_at, shift_length, sheet_length};

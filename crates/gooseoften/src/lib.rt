@@ -1,5 +1,6 @@
 // The box's library: check, for the box and for the screen, write, find and text for programs in C, with numbers, slices and arrays of fixed length alone. include/gooseoften.h declares them.
 #![tactic(auto)]
+
 ghost use Rattle.std.specs.Prelude.{◌≡◌, length};
 ghost use Rattle.sha256.specs.Message.{sha256};
 ghost use Rattle.rules.specs.Check.{check_board, check_small};

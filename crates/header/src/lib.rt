@@ -1,5 +1,6 @@
 // The header of a board.
 #![tactic(auto)]
+
 ghost use Rattle.std.specs.Prelude.{◌≡◌, ◌≤◌, length};
 ghost use Rattle.group.specs.Elements.{parameters_of};
 ghost use Rattle.rules.specs.Records.{header_length};

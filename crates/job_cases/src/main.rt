@@ -1,5 +1,6 @@
 // Writes the jobs of standard input, and prints a line for each: its name, the reply, and whether the rest of the output stayed as it was.
 #![tactic(auto)]
+
 mod buffers;
 mod frame;
 

@@ -1,5 +1,6 @@
 // The writer's answer. What is written is a definition, in specs/; specs/Replies.antt gives the number and the values of each case.
 #![tactic(auto)]
+
 use rules::Refusal;
 
 #[derive(Clone, Copy)]

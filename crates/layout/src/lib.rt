@@ -1,5 +1,6 @@
 // The marks and the lengths of records, and the kinds of boards, for checker and writer alike.
 #![tactic(auto)]
+
 ghost use Rattle.std.specs.Prelude.{◌≡◌, ◌≤◌, ◌<◌, ◌^◌};
 ghost use Rattle.rules.specs.Records.{records_of, pairs_from, counted_length, audit_length, ballot_length, shift_length, sheet_length, record_length};
 ghost use Rattle.rules.specs.Header.{ranked, small};

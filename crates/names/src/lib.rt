@@ -1,5 +1,6 @@
 // The names of processes as they are lent: each is 1 to 20 letters with a line feed after it.
 #![tactic(auto)]
+
 ghost use Rattle.std.specs.Prelude.{◌≡◌, false, not, ◌&&◌, ◌+◌, ◌≤◌, leb, eqb, length, get_or};
 ghost use Rattle.numbers.specs.Below.{all_below};
 ghost use Rattle.rules.specs.Receipts.{same};

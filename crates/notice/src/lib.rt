@@ -1,5 +1,6 @@
 // The text for a board: its count in sentences, with the names of processes.
 #![tactic(auto)]
+
 ghost use Rattle.std.specs.Prelude.{◌≡◌, ◌≤◌, length};
 ghost use Rattle.sha256.specs.Message.{sha256};
 ghost use Rattle.rules.specs.Notice.{tell, text_outcome, output_after};

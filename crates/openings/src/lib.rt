@@ -1,5 +1,6 @@
 // Whether bytes are a ranking, and whether pairs open to what is shown of them.
 #![tactic(auto)]
+
 ghost use Rattle.std.specs.Prelude.{◌≡◌, cond, ℕ, ◌+◌, ◌*◌, ◌≤◌, ◌<◌, eqb, length};
 ghost use Rattle.numbers.specs.Below.{all_below};
 ghost use Rattle.group.specs.Elements.{parameters_of};

@@ -1,5 +1,6 @@
 // Numbers written at the front of a lent part of an output, high byte first.
 #![tactic(auto)]
+
 ghost use Rattle.std.specs.Prelude.{◌≡◌, ◌≤◌, [], ◌∷◌, length};
 ghost use Rattle.rules.specs.Bytes.{bytes2, bytes4};
 ghost use Rattle.output.specs.Written.{written};

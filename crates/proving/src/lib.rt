@@ -1,6 +1,7 @@
 // A proof made in its place on the board by one who knows the witness of one branch: the statements are fed to the hash with their commitments as these arise, and the
 // true branch's challenge and responses are written last.
 #![tactic(auto)]
+
 ghost use Rattle.std.specs.Prelude.{◌≡◌, ℕ, ◌+◌, ◌*◌, ◌^◌, ◌≤◌, ◌<◌, List, ◌++◌, length};
 ghost use Rattle.sha256.specs.Feed.{Fed};
 ghost use Rattle.group.specs.Elements.{parameters_of};

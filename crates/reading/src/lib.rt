@@ -1,6 +1,7 @@
 // A lent board and its next unread place, together: what a board is read with. The functions over it are few and leave the work to others, on a
 // plain slice and a place: their proofs follow the code by hand, step by step.
 #![tactic(auto)]
+
 ghost use Rattle.std.specs.Prelude.{◌≡◌, ◌≤◌, length, drop};
 ghost use Rattle.header.specs.Heads.{HeaderReads};
 

@@ -1,5 +1,6 @@
 // Finding many receipts in one walk of the ballots: for each of up to 500 digests the number of the ballot whose record has it.
 #![tactic(auto)]
+
 ghost use Rattle.std.specs.Prelude.{◌≡◌, ◌+◌, ◌≤◌, length, take, drop, replicate};
 ghost use Rattle.sha256.specs.Message.{sha256};
 ghost use Rattle.rules.specs.Bytes.{part};

@@ -1,6 +1,7 @@
 // The BA and SH records, each with its tests in the table's order: the frame (1, 2, 6; of BA 17), the fields (7), the proofs (8), and what an
 // audited BA shows (18).
 #![tactic(auto)]
+
 ghost use Rattle.std.specs.Prelude.{◌≡◌, ℕ, ◌+◌, ◌*◌, ◌≤◌, ◌<◌, ◌++◌, length};
 ghost use Rattle.sha256.specs.Feed.{Fed};
 ghost use Rattle.sha256.specs.Message.{sha256};

@@ -1,5 +1,6 @@
 // One round: what a ballot has in it, what is carried from ballot to ballot, and its end with its sheet.
 #![tactic(auto)]
+
 ghost use Rattle.std.specs.Prelude.{◌≡◌, cond, ℕ, suc, ◌+◌, ◌*◌, ◌^◌, ◌≤◌, ◌<◌, length};
 ghost use Rattle.rules.specs.Records.{kind_at, is_counted, pairs_from, record_length};
 ghost use Rattle.rules.specs.Header.{ranked};

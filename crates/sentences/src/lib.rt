@@ -1,5 +1,6 @@
 // The count in sentences: a line a round, measured and written.
 #![tactic(auto)]
+
 ghost use Rattle.std.specs.Prelude.{◌≡◌, ◌≤◌, length};
 ghost use Rattle.output.specs.Written.{written};
 ghost use Rattle.sentences.specs.Lines.{Ready, text_named};

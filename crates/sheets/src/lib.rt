@@ -1,5 +1,6 @@
 // The RT record.
 #![tactic(auto)]
+
 ghost use Rattle.std.specs.Prelude.{◌≡◌, ◌+◌, ◌≤◌, ◌<◌, length, get_or};
 ghost use Rattle.numbers.specs.Below.{all_below};
 ghost use Rattle.group.specs.Elements.{parameters_of};

@@ -1,5 +1,6 @@
 // Statements: what a proof claims of the matrices on a board, and its check.
 #![tactic(auto)]
+
 ghost use Rattle.std.specs.Prelude.{◌≡◌, ◌-◌, ◌<◌};
 ghost use Rattle.rules.specs.Proofs.{statement_holds};
 ghost use Rattle.statements.specs.Values.{statement_of, Ready};

@@ -1,6 +1,7 @@
 // Asks for the text of each board of standard input with the names beside it, and prints for each case its name, the answer, whether the rest of the output
 // stayed as it was, and the text.
 #![tactic(auto)]
+
 ghost use Rattle.std.specs.Prelude.{◌≡◌, ◌≤◌, length};
 ghost use Rattle.testing.specs.Input.{Within};
 

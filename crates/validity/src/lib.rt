@@ -1,5 +1,6 @@
 // The numbers of a job, its tests, and the group that it fixes.
 #![tactic(auto)]
+
 pub mod repeats;
 
 ghost use Rattle.std.specs.Prelude.{◌≡◌, ◌&&◌, ◌||◌, List, [], ℕ, ◌<◌, leb, ltb, eqb, length, get_or};

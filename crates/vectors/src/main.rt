@@ -1,5 +1,6 @@
 // SHA-256 of FIPS 180-4's examples, and of messages that end near a block's end, at once and in pieces.
 #![tactic(auto)]
+
 ghost use Rattle.std.specs.Prelude.{◌≡◌, ℕ, ◌+◌, ◌*◌, ◌%◌, ◌≤◌, ◌<◌, length, get_or, replicate};
 ghost use Rattle.io.specs.Digits.{hex_digit_ascii};
 ghost use Rattle.sha256.specs.Message.{sha256};

@@ -1,0 +1,16 @@
+use Prim.Native.Nat.{◌-◌, ◌*◌, ◌≤◌}
+use mathlib.Core.Path.{◌≡◌, refl, ◌∙◌}
+use mathlib.Core.List.{[], ◌∷◌}
+use native.Mathlib.Omega.{arith}
+use lib.ListN.{length, get_or}
+use Rattle.numbers.specs.Below.{concat_below}
+use Rattle.output.specs.Written.{written}
+use Rattle.output.proofs.Laws.{none, block_more}
+use borrow.Author.Rules.{rules}
+use Rattle.ballots.proofs.audit.write_ranking.Given as goal
+
+abbrev pub invariant-loop-i : goal.invariant-loop-i
+invariant-loop-i l = (l.i ≤ l.n) × (length l.out ≡ length l.initial.out) × (l.out ≡ written (concat_below l.i (λ j. get_or l.list j 0 ∷ [])) l.initial.out)
+
+abbrev pub decreases-loop-i : goal.decreases-loop-i
+decreases-loop-i l = l.n - l.i

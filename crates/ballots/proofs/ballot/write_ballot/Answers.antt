@@ -1,0 +1,33 @@
+use Prim.Native.Nat.{ℕ, ◌+◌, ◌*◌, ◌≤◌}
+use mathlib.Core.Path.{◌≡◌, sym, ap, ◌∙◌}
+use mathlib.Core.List.{List}
+use native.Mathlib.Omega.{arith}
+use lib.ListN.{get_or, length-take, length-drop}
+use Rattle.group.specs.Elements.{parameters_of}
+use Rattle.layout.proofs.Rounds.{length_audited}
+use Rattle.output.specs.Written.{written}
+use Rattle.output.proofs.Laws.{more}
+use Rattle.ballots.proofs.Records.{length_body, ballot_audited, ballot_other}
+use borrow.Author.Rules.{rules}
+use Rattle.ballots.proofs.ballot.write_ballot.Goals as goal
+
+pub write_audit-requires : goal.write_audit-requires
+write_audit-requires c =
+    let p = c.requires in
+    let b = c.args.b in
+    let long = length_audited b.n b.kind (sym c.wide.ensures ∙ c.if-wide-ne-AUDITED.false) in
+    (p.0.2, simp (length-take, length-drop) (omega (arith, long, p.0.3, c.counted_length-at.ensures.0, c, c)), omega (arith, p.1.near), omega (arith, p.1.enough))
+
+pub returns-then-wide-ne-AUDITED : goal.returns-then-wide-ne-AUDITED
+returns-then-wide-ne-AUDITED c =
+    let f = c.args in
+    c.write_body.ensures
+    ∙ ap (λ (x : List ℕ). written x f.out.now) (ballot_other f.label.now (parameters_of f.g.group) f.b.n f.b.number (λ k. get_or f.b.list k 0) f.draws.now f.b.from f.b.kind (λ e. c.if-wide-ne-AUDITED.true (c.wide.ensures ∙ e)))
+
+pub returns : goal.returns
+returns c =
+    let f = c.args in
+    let g = parameters_of f.g.group in
+    let list : ℕ → ℕ = λ k. get_or f.b.list k 0 in
+    more _ _ _ _ _ _ (length_body f.label.now g f.b.n f.b.number list f.draws.now f.b.from f.b.kind ∙ sym c.counted_length-at.ensures.0) c.write_body.ensures c.write_audit.ensures
+    ∙ ap (λ (x : List ℕ). written x f.out.now) (ballot_audited f.label.now g f.b.n f.b.number list f.draws.now f.b.from f.b.kind (sym c.wide.ensures ∙ c.if-wide-ne-AUDITED.false))

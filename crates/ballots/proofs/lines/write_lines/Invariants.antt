@@ -1,0 +1,23 @@
+use Prim.Native.Nat.{ℕ, ◌+◌, ◌-◌, ◌≤◌}
+use mathlib.Core.Path.{◌≡◌, refl, ◌∙◌}
+use mathlib.Core.List.{List}
+use native.Mathlib.Nat.{mul_comm}
+use native.Mathlib.Omega.{arith}
+use lib.ListN.{length, get_or, length-take, length-drop}
+use Rattle.numbers.specs.Below.{concat_below}
+use Rattle.sha256.specs.Feed.{Fed}
+use Rattle.group.specs.Elements.{parameters_of}
+use Rattle.output.specs.Written.{written}
+use Rattle.output.proofs.Laws.{none, block_more}
+use Rattle.ballots.specs.Parts.{line_of}
+use Rattle.ballots.proofs.Entries.{length_line}
+use borrow.Author.Rules.{rules}
+use Rattle.ballots.proofs.lines.write_lines.Given as goal
+
+abbrev pub invariant-loop-t : goal.invariant-loop-t
+invariant-loop-t l =
+    (l.t ≤ l.b.n + l.b.n) × (length l.out ≡ length l.initial.out)
+    × ((m : List ℕ) → Fed l.labelled m → l.out ≡ written (concat_below l.t (line_of m (parameters_of l.g.group) l.b.n l.b.number (λ k. get_or l.b.list k 0) l.draws l.b.from)) l.initial.out)
+
+abbrev pub decreases-loop-t : goal.decreases-loop-t
+decreases-loop-t l = l.b.n + l.b.n - l.t

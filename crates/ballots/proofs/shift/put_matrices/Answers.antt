@@ -1,0 +1,42 @@
+use Prim.Native.Nat.{◌+◌, ◌-◌, ◌≤◌}
+use mathlib.Core.Path.{◌≡◌, ◌∙◌}
+use native.Mathlib.Omega.{arith}
+use lib.ListN.{length, length-take, length-drop}
+use Rattle.group.specs.Elements.{parameters_of}
+use Rattle.jobs.specs.Records.{pair_bytes}
+use Rattle.ballots.specs.Parts.{old_matrix, new_matrix}
+use Rattle.jobs.proofs.Lengths.{length_pairs}
+use Rattle.ballots.proofs.Pages.{front_stands, two_stand}
+use Rattle.ballots.proofs.Shifts.{count_few, cells_few}
+use borrow.Author.Rules.{rules}
+use Rattle.ballots.proofs.shift.put_matrices.Goals as goal
+
+pub write_pairs-requires : goal.write_pairs-requires
+write_pairs-requires c =
+    let p = c.requires.0 in
+    let few = cells_few (parameters_of c.args.g) c.args.s c.args.draws.now p in
+    (p.modulus, p.some, p.few, omega (arith, p.fewer), omega (arith, few, c.requires.1), omega (arith, p.olds.near), p.olds.enough)
+
+pub write_pairs-requires-2 : goal.write_pairs-requires-2
+write_pairs-requires-2 c =
+    let p = c.requires.0 in
+    let few = count_few (parameters_of c.args.g) c.args.s c.args.draws.now p in
+    (p.modulus, p.some, p.few, omega (arith, p.fewer), simp (length-take, length-drop) (omega (arith, few, c.requires.1, c)), omega (arith, p.news.near), omega (arith, p.news.enough))
+
+pub returns : goal.returns
+returns c =
+    let f = c.args in
+    let g = parameters_of f.g in
+    let B = pair_bytes f.s.n (old_matrix g f.s f.draws.now) (f.s.rows + 1) in
+    let N = pair_bytes f.s.n (new_matrix g f.s f.draws.now) f.s.rows in
+    let b : length B ≤ 512 = omega (arith, length_pairs f.s.n (old_matrix g f.s f.draws.now) (f.s.rows + 1), cells_few g f.s f.draws.now c.requires.0) in
+    let n : length N ≤ 448 = omega (arith, length_pairs f.s.n (new_matrix g f.s f.draws.now) f.s.rows, count_few g f.s f.draws.now c.requires.0) in
+    let l = f.page.now in
+    let r = c.write_pairs in
+    let long : length r.new.0 ≡ length l = (front_stands B l _ r.ensures (omega (arith, c.requires.1))).0 in
+    let w = two_stand 512 (length r.new.0 - 512) l r.new.0 c.write_pairs-2.new.0 B N
+    (omega (arith, long, c.requires.1)) r.ensures b (omega (arith, long, c.requires.1)) c.write_pairs-2.ensures in
+    (w.0 ∙ c.requires.1, w.1, w.2)
+
+pub overflow_add-s : goal.overflow_add-s
+overflow_add-s c = omega (arith, c.requires.0.fewer)

@@ -1,0 +1,122 @@
+use Prim.Native.Nat.{ℕ, ◌+◌, ◌-◌, ◌*◌, ◌≤◌, ◌<◌, ◌^◌}
+use mathlib.Core.Path.{◌≡◌, refl, ◌∙◌}
+use native.Mathlib.Nat.{mul-le-mul_right}
+use native.Mathlib.Omega.{arith}
+use lib.ListN.{length, get_or, set, replicate}
+use Rattle.ballots.specs.Parts.{Witnessed}
+use Rattle.statements.proofs.Lines.{row_below}
+use Rattle.ballots.proofs.Secrets.{witnessed_none, witnessed_more, witness_first, witness_second, witness_later, source_within}
+use borrow.Author.Rules.{rules}
+use Rattle.ballots.proofs.sums.witnesses.Goals as goal
+
+few : (rows n : ℕ) → rows < 8 → n ≤ 8 → rows * n ≤ 56
+few rows n h k = let u : rows * n ≤ 7 * n = mul-le-mul_right n (omega arith) in omega arith
+
+-- the struck row is within the matrix before
+module _ (c : tie.After-shared-slice-known invariant_loop decreases_loop) where
+  row_in : c.before.args.s.struck * c.before.args.s.n + c.before.args.s.n ≤ (c.before.args.s.rows + 1) * c.before.args.s.n
+  row_in = let s = c.before in row_below (s.args.s.rows + 1) s.args.s.n s.args.s.struck (omega (arith, s.requires.0))
+
+  row_near : c.before.args.s.old + c.before.args.s.struck * c.before.args.s.n + c.before.args.s.n < 2 ^ 40
+  row_near = omega (arith, row_in, c.before.requires.1.0.near)
+
+  row_there : c.before.args.s.old + c.before.args.s.struck * c.before.args.s.n + c.before.args.s.n ≤ length c.before.args.draws.now
+  row_there = omega (arith, row_in, c.before.requires.1.0.enough)
+
+pub loop-c-init : goal.loop-c-init
+loop-c-init c =
+    let f = c.args in (
+      omega arith,
+      few f.s.rows f.s.n (omega (arith, c.requires.n_nonzero)) (omega (arith, c.requires.n_nonzero)),
+      refl,
+      witnessed_more f.q f.s.n f.draws.now f.s.old f.s.new f.s.column f.s.struck 1 _ (set (replicate 64 (record { 0 = 0 })) 0 (record { 0 = get_or f.draws.now (f.s.old + f.s.struck * f.s.n + f.s.column) 0 }))
+          (witnessed_more f.q f.s.n f.draws.now f.s.old f.s.new f.s.column f.s.struck 0 _ (replicate 64 (record { 0 = 0 }))
+          (witnessed_none f.q f.s.n f.draws.now f.s.old f.s.new f.s.column f.s.struck _ refl) (omega arith) (witness_first f.q f.s.n f.draws.now f.s.old f.s.new f.s.column f.s.struck _ refl))
+          (omega arith) (witness_second f.q f.s.n f.draws.now f.s.old f.s.new f.s.column f.s.struck _ c.sum_of.ensures),
+    )
+
+-- the pair before is within the matrix before
+module _ (c : tie.After-source-of invariant_loop decreases_loop) where
+  source_in : c.source_of.result < (c.before.before.before.before.before.before.args.s.rows + 1) * c.before.before.before.before.before.before.args.s.n
+  source_in =
+      let s = c.before.before.before.before.before.before in
+      rw c.source_of.ensures (source_within s.args.s.n s.args.s.rows s.args.s.struck c.before.before.loop.c (omega (arith, s.requires.0)) (omega (arith, c.before.before.loop.invariant.2, c.before.loop_test.true)))
+
+pub past-requires : goal.past-requires
+past-requires c =
+    let p = c.requires.draws_below.0 in
+    (p.positive, p.below (c.args.s.old + c.source_of-from.result) (omega (arith, source_in c)))
+
+pub loop-c-preserved : goal.loop-c-preserved
+loop-c-preserved c =
+    let l = c.loop-c in
+    let f = c.args in
+    let e : 2 + l.c + 1 ≡ 2 + (l.c + 1) = omega arith in (
+      omega arith,
+      l.invariant.1,
+      l.invariant.2,
+      rw e at
+          (witnessed_more f.q f.s.n f.draws.now f.s.old f.s.new f.s.column f.s.struck (2 + l.c) _ l.w l.invariant.3 (omega (arith, l.invariant.1, c.loop-c-test.true))
+          (witness_later f.q f.s.n f.draws.now f.s.old f.s.new f.s.column f.s.struck l.c _ (c.past.ensures ∙ rw c.source_of-from.ensures))),
+    )
+
+pub returns : goal.returns
+returns c =
+    let l = c.loop-c in
+    let f = c.args in
+    let e : l.c ≡ f.s.rows * f.s.n = omega (arith, l.invariant.2) in
+    rw (← e) l.invariant.3
+
+pub overflow_mul-count : goal.overflow_mul-count
+overflow_mul-count c = omega (arith, few c.args.s.rows c.args.s.n (omega (arith, c.requires.n_nonzero)) (omega (arith, c.requires.n_nonzero)))
+
+pub overflow_mul-row : goal.overflow_mul-row
+overflow_mul-row c = omega (arith, row_near c)
+
+pub overflow_add-row : goal.overflow_add-row
+overflow_add-row c = omega (arith, row_near c)
+
+pub overflow_add-w : goal.overflow_add-w
+overflow_add-w c = omega (arith, row_near c, c.requires.n_nonzero)
+
+pub offset_bounds-draws-row : goal.offset_bounds-draws-row
+offset_bounds-draws-row c = omega (arith, row_near c)
+
+pub bounds-draws-row : goal.bounds-draws-row
+bounds-draws-row c = omega (arith, row_there c, c.requires.n_nonzero)
+
+pub sum_of-requires : goal.sum_of-requires
+sum_of-requires c = let p = c.requires in (p.1.0.positive, omega (arith, p.0), omega arith, omega (arith, row_near c), omega (arith, row_there c, p.0))
+
+pub source_of-from-requires : goal.source_of-from-requires
+source_of-from-requires c = (omega (arith, c.requires.n_nonzero), omega (arith, c.requires.n_nonzero, c.loop-c.invariant.1))
+
+pub overflow_add-x : goal.overflow_add-x
+overflow_add-x c = omega (arith, c.requires.draws_below.1.near, c.loop-c.invariant.1, c.loop-c.invariant.2, c.loop-c-test.true)
+
+pub offset_bounds-draws-new : goal.offset_bounds-draws-new
+offset_bounds-draws-new c = omega (arith, c.requires.draws_below.1.near, c.loop-c.invariant.1, c.loop-c.invariant.2, c.loop-c-test.true)
+
+pub bounds-draws-new : goal.bounds-draws-new
+bounds-draws-new c = omega (arith, c.requires.draws_below.1.enough, c.loop-c.invariant.2, c.loop-c-test.true)
+
+pub overflow_add-y : goal.overflow_add-y
+overflow_add-y c = omega (arith, c.requires.draws_below.0.near, source_in c)
+
+pub offset_bounds-draws-old : goal.offset_bounds-draws-old
+offset_bounds-draws-old c = omega (arith, c.requires.draws_below.0.near, source_in c)
+
+pub bounds-draws-old : goal.bounds-draws-old
+bounds-draws-old c = omega (arith, c.requires.draws_below.0.enough, source_in c)
+
+pub overflow_add-w-in-loop-c : goal.overflow_add-w-in-loop-c
+overflow_add-w-in-loop-c c = omega (arith, c.loop-c.invariant.1, c.loop-c-test.true)
+
+pub offset_bounds-w-c : goal.offset_bounds-w-c
+offset_bounds-w-c c = omega (arith, c.loop-c.invariant.1, c.loop-c-test.true)
+
+pub bounds-w-c : goal.bounds-w-c
+bounds-w-c c = omega (arith, c.loop-c.invariant.1, c.loop-c-test.true, c.loop-c.invariant.3.long)
+
+pub overflow_step-c : goal.overflow_step-c
+overflow_step-c c = omega (arith, c.loop-c.invariant.1, c.loop-c-test.true)

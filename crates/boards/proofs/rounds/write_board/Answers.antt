@@ -1,0 +1,7 @@
+use Rattle.output.proofs.Laws.{more}
+use Rattle.boards.proofs.RoundPlans.{length_header}
+use borrow.Author.Rules.{rules}
+use Rattle.boards.proofs.rounds.write_board.Goals as goal
+
+pub returns : goal.returns
+returns c = more _ _ _ _ _ _ (length_header c.args.label.now c.requires.label_len.0) c.write_header.ensures c.write_rounds.ensures

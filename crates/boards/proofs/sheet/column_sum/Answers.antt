@@ -1,0 +1,57 @@
+use Prim.Native.Nat.{ℕ, ◌+◌, ◌-◌, ◌*◌, ◌≤◌, ◌<◌}
+use mathlib.Core.Path.{◌≡◌, refl, sym, ap, ◌∙◌}
+use mathlib.Core.Bool.{true, cond}
+use mathlib.Core.Logic.{⊎_elim}
+use native.Mathlib.Omega.{arith}
+use borrow.Author.Tests.{eq-eqb, ne_eqb}
+use lib.ListN.{length, get_or}
+use Rattle.numbers.specs.Below.{sum_below}
+use Rattle.numbers.proofs.Sums.{sum_more, sum_passed}
+use Rattle.rules.specs.Records.{is_counted}
+use Rattle.jobs.specs.Job.{record_draws}
+use borrow.Author.Rules.{rules}
+use Rattle.boards.proofs.sheet.column_sum.Goals as goal
+
+pub loop-b-init : goal.loop-b-init
+unfolding sum_below
+loop-b-init c = (omega arith, omega arith, omega arith, omega arith, refl)
+
+-- a counted ballot's draw is there
+there : (c : goal.Then-kind-eq-COUNTED) → let f = c.args in c.loop-b.at < length f.draws.now
+there c =
+    let l = c.loop-b in
+    rw l.invariant.3 (c.requires.by_index l.b (omega arith) (eq-eqb (get_or c.args.kinds.now l.b 0) 0 (sym c.wide-kind.ensures ∙ c.if-kind-eq-COUNTED.true)))
+
+pub loop-b-preserved : goal.loop-b-preserved
+loop-b-preserved c =
+    let l = c.loop-b in
+    let f = c.args in
+    let told = c.wide-kind.ensures in
+    let r = c.record_draws-at.ensures in
+    let ahead : ℕ → ℕ = λ b. sum_below b (λ i. record_draws f.n (get_or f.kinds.now i 0) f.m) in
+    let next = sum_more l.b (ahead l.b) _ (λ i. record_draws f.n (get_or f.kinds.now i 0) f.m) refl (r.0 ∙ rw told) in
+    ⊎_elim
+    (λ w.
+    let counted = eq-eqb (get_or f.kinds.now l.b 0) 0 (sym told ∙ w.0.true) in
+    let drawn : get_or f.draws.now l.at 0 ≡ get_or f.draws.now (f.from + ahead l.b) 0 = ap (λ (d : ℕ). get_or f.draws.now d 0) l.invariant.3 in (
+      omega arith,
+      rw w.3 (omega (arith, l.invariant.1, w.2.ensures.1)),
+      omega (arith, r.1, l.invariant.2),
+      omega (arith, next, l.invariant.3),
+      w.3 ∙ sum_more l.b l.sum _ _ l.invariant.4 (w.2.ensures.0 ∙ drawn ∙ rw counted),
+    ))
+    (λ w.
+    let audited = ne_eqb (get_or f.kinds.now l.b 0) 0 (λ e. w.0.false (told ∙ e)) in (
+      omega arith,
+      rw w.1 (omega (arith, l.invariant.1)),
+      omega (arith, r.1, l.invariant.2),
+      omega (arith, next, l.invariant.3),
+      w.1 ∙ sum_passed l.b l.sum _ l.invariant.4 (rw audited),
+    ))
+    c.if-kind-eq-COUNTED.branch-raw
+
+pub bounds-draws-at : goal.bounds-draws-at
+bounds-draws-at c = there c.before
+
+pub returns : goal.returns
+returns c = let l = c.loop-b in let e : l.b ≡ c.args.k = omega arith in c.reduce_exp.ensures ∙ rw (l.invariant.4, e)

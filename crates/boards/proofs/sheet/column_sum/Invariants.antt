@@ -1,0 +1,21 @@
+use Prim.Native.Nat.{ℕ, ◌+◌, ◌-◌, ◌*◌, ◌≤◌, ◌<◌}
+use mathlib.Core.Path.{◌≡◌, refl, sym, ap, ◌∙◌}
+use mathlib.Core.Bool.{true, cond}
+use mathlib.Core.Logic.{⊎_elim}
+use native.Mathlib.Omega.{arith}
+use borrow.Author.Tests.{eq-eqb, ne_eqb}
+use lib.ListN.{length, get_or}
+use Rattle.numbers.specs.Below.{sum_below}
+use Rattle.numbers.proofs.Sums.{sum_more, sum_passed}
+use Rattle.rules.specs.Records.{is_counted}
+use Rattle.jobs.specs.Job.{record_draws}
+use borrow.Author.Rules.{rules}
+use Rattle.boards.proofs.sheet.column_sum.Given as goal
+
+abbrev pub invariant-loop-b : goal.invariant-loop-b
+invariant-loop-b l =
+    (l.b ≤ l.k) × (l.sum ≤ l.b * 4294967296) × (l.at ≤ l.from + l.b * 1000) × (l.at ≡ l.from + sum_below l.b (λ i. record_draws l.n (get_or l.kinds i 0) l.m))
+    × (l.sum ≡ sum_below l.b (λ d. cond (is_counted (get_or l.kinds d 0)) (get_or l.draws (l.from + sum_below d (λ i. record_draws l.n (get_or l.kinds i 0) l.m)) 0) 0))
+
+abbrev pub decreases-loop-b : goal.decreases-loop-b
+decreases-loop-b l = l.k - l.b

@@ -1,0 +1,50 @@
+use Prim.Native.Nat.{ℕ, ◌+◌, ◌*◌, ◌-◌, ◌%◌, ◌≤◌}
+use mathlib.Core.Path.{◌≡◌, refl, ap, ◌∙◌}
+use mathlib.Core.List.{List, [], ◌∷◌, ◌++◌, append-nil}
+use native.Mathlib.Omega.{arith}
+use lib.ListN.{length, get_or}
+use Rattle.numbers.specs.Below.{sum_below, concat_below}
+use Rattle.jobs.specs.Job.{record_draws}
+use Rattle.output.specs.Written.{written}
+use Rattle.output.proofs.Laws.{more}
+use Rattle.boards.proofs.Columns.{column_is, columns_to, columns_more, sheet_whole}
+use borrow.Author.Rules.{rules}
+use Rattle.boards.proofs.sheet.write_sheet.Goals as goal
+
+-- the draws of round m ahead of ballot b's record
+abbrev ahead : (kinds : List ℕ) (n m b : ℕ) → ℕ
+ahead kinds n m b = sum_below b (λ j. record_draws n (get_or kinds j 0) m)
+
+abbrev columns : (q n k m from : ℕ) (kinds draws counts : List ℕ) (i : ℕ) → List ℕ
+columns q n k m from kinds draws counts i = columns_to q n k (λ b. get_or kinds b 0) draws (λ b. from + ahead kinds n m b) counts i
+
+pub loop-i-init : goal.loop-i-init
+unfolding concat_below
+loop-i-init c = (omega arith, refl, λ front o e h. rw (append-nil front) h)
+
+pub loop-i-preserved : goal.loop-i-preserved
+loop-i-preserved c =
+    let l = c.loop-i in
+    let f = c.args in
+    let q = f.head.setup.group.q in
+    let kind : ℕ → ℕ = λ b. get_or f.kinds.now b 0 in
+    let sum = c.column_sum-sum.ensures ∙ ap (λ (x : ℕ). x % q) (column_is q f.head.n f.head.k kind f.draws.now f.plan.new (ahead f.kinds.now f.head.n f.plan.m) l.i) in (
+      omega arith,
+      search rules,
+      λ front o e h. columns_more q f.head.n f.head.k kind f.draws.now (λ b. f.plan.new + ahead f.kinds.now f.head.n f.plan.m b) f.plan.sheet.counts front l.i _ _ o l.out _ e refl sum (l.invariant.2 front o e h) c.write_tally.ensures,
+    )
+
+pub returns : goal.returns
+returns c =
+    let l = c.loop-i in
+    let f = c.args in
+    let e : l.i ≡ f.head.n = omega arith in
+    l.invariant.2 _ _ refl (more _ _ _ _ _ _ refl c.put_two.ensures c.put_two-2.ensures)
+    ∙ rw (e, sheet_whole f.head.setup.group.q f.head.n f.head.k (λ b. get_or f.kinds.now b 0) f.draws.now (λ b. f.plan.new + ahead f.kinds.now f.head.n f.plan.m b) f.plan.sheet.counts f.plan.m f.plan.out _ c.low-round.ensures)
+
+pub column_sum-sum-requires : goal.column_sum-sum-requires
+column_sum-sum-requires c =
+    let p = c.requires in record {
+      q_nonzero = (p.0.0, p.0.1, p.0.2, p.0.3, p.0.4, omega (arith, p.0));
+      by_index = λ b h k. omega (arith, p.1 b h k);
+    }

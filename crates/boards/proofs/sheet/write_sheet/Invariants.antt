@@ -1,0 +1,20 @@
+use Prim.Native.Nat.{ℕ, ◌+◌, ◌*◌, ◌-◌, ◌%◌, ◌≤◌}
+use mathlib.Core.Path.{◌≡◌, refl, ap, ◌∙◌}
+use mathlib.Core.List.{List, [], ◌∷◌, ◌++◌, append-nil}
+use native.Mathlib.Omega.{arith}
+use lib.ListN.{length, get_or}
+use Rattle.numbers.specs.Below.{sum_below, concat_below}
+use Rattle.jobs.specs.Job.{record_draws}
+use Rattle.output.specs.Written.{written}
+use Rattle.output.proofs.Laws.{more}
+use Rattle.boards.proofs.Columns.{column_is, columns_to, columns_more, sheet_whole}
+use borrow.Author.Rules.{rules}
+use Rattle.boards.proofs.sheet.write_sheet.Given as goal
+
+abbrev pub invariant-loop-i : goal.invariant-loop-i
+invariant-loop-i l =
+    (l.i ≤ l.n) × (length l.out ≡ length l.initial.out)
+    × ((front o : List ℕ) → length front ≡ 4 → l.initial.out ≡ written front o → l.out ≡ written (front ++ columns l.q l.n l.k l.m l.from l.kinds l.draws l.counts l.i) o)
+
+abbrev pub decreases-loop-i : goal.decreases-loop-i
+decreases-loop-i l = l.n - l.i

@@ -1,0 +1,5 @@
+use borrow.Author.Rules.{rules}
+use Rattle.challenges.proofs.feed_statement.Goals as goal
+
+pub returns : goal.returns
+returns c = c.update.ensures

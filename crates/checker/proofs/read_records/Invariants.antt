@@ -1,0 +1,14 @@
+use Prim.Native.Nat.{suc, ◌+◌, ◌-◌}
+use mathlib.Core.Path.{◌≡◌}
+use native.Mathlib.Omega.{arith}
+use borrow.Author.Rules.{rules}
+use Rattle.round.specs.Rounds.{Later}
+use Rattle.round.specs.Walks.{Walked}
+use Rattle.round.proofs.Walked.{walked_first, searched_refused, searched_all}
+use Rattle.checker.proofs.read_records.Given as goal
+
+abbrev pub invariant-loop-walk : goal.invariant-loop-walk
+invariant-loop-walk l = Walked l.board l.head l.here l.place l.walk
+
+abbrev pub decreases-loop-walk : goal.decreases-loop-walk
+decreases-loop-walk l = l.count - l.walk.k

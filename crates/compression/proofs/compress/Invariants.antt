@@ -1,0 +1,10 @@
+use Rattle.std.proofs.Common.{◌-◌, ◌≤◌, refl, arith, rules}
+use Rattle.compression.specs.Block.{K, rounds}
+use Rattle.compression.proofs.Laws.{Eight, rounds_more, compress_end}
+use Rattle.compression.proofs.compress.Given as goal
+
+abbrev pub invariant-loop-t : goal.invariant-loop-t
+invariant-loop-t l = (l.t ≤ 64) × Eight (rounds l.ws l.state l.t) l.a l.b l.c l.d l.e l.f l.g l.h
+
+abbrev pub decreases-loop-t : goal.decreases-loop-t
+decreases-loop-t l = 64 - l.t

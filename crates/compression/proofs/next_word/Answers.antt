@@ -1,0 +1,5 @@
+use Rattle.std.proofs.Common.{rules}
+use Rattle.compression.proofs.next_word.Goals as goal
+
+pub returns : goal.returns
+returns c = cc

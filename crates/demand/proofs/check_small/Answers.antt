@@ -1,0 +1,12 @@
+use borrow.Author.Rules.{rules}
+use Rattle.demand.proofs.Answers.{of_small, as_for_the_box, accepted_is_plain, audited_as_shown}
+use Rattle.demand.proofs.check_small.Goals as goal
+
+pub returns : goal.returns
+returns c =
+    let e = c.check_small.ensures in let a = of_small _ _ e.0 in record {
+      result_value = e;
+      as_for_the_box = as_for_the_box _ c.check_small.result e.0 e.1;
+      accepted_is_plain = accepted_is_plain _ _ a;
+      audited_as_shown = audited_as_shown _ _ a;
+    }

@@ -1,0 +1,47 @@
+use Prim.Native.Nat.{ℕ, ◌+◌, ◌*◌, ◌-◌, ◌%◌, ◌≤◌}
+use mathlib.Core.Path.{◌≡◌, refl}
+use mathlib.Core.Logic.{⊎_elim}
+use native.Mathlib.Omega.{arith}
+use lib.ListN.{length}
+use borrow.Author.Rules.{rules}
+use Rattle.numbers.specs.Below.{prod_below}
+use Rattle.rules.specs.Bytes.{number4}
+use Rattle.rules.specs.Claims.{besides}
+use Rattle.fields.proofs.Products.{prod_more, prod_skip}
+use Rattle.fields.proofs.product_besides.Goals as goal
+
+pub loop-j-init : goal.loop-j-init
+unfolding prod_below
+loop-j-init c = (omega arith, refl)
+
+-- the words read are within the slice
+fits : (c : goal.In-loop-j) →
+    c.args.at + c.args.stride * c.loop-j.j + 4 ≤ length
+    c.args.s.now
+fits c = c.requires.by_index c.loop-j.j c.loop-j-test.true
+
+pub overflow_mul-stride : goal.overflow_mul-stride
+overflow_mul-stride c = omega (arith, fits c.before, c.well_formed)
+
+pub overflow_add-at : goal.overflow_add-at
+overflow_add-at c = omega (arith, fits c.before, c.well_formed)
+
+pub loop-j-preserved : goal.loop-j-preserved
+loop-j-preserved c =
+    let a = c.args in
+    let f : ℕ → ℕ = λ j. number4 a.s.now (a.at + a.stride * j) in
+    let inv = c.loop-j.invariant.1 in (
+      omega arith,
+      ⊎_elim
+          (λ w. prod_more a.p a.out _ f _ _ w.0.true inv (rw (w.3, ← w.1.ensures) w.2.ensures))
+          (λ w. rw w.1 (prod_skip a.p a.out _ f _ w.0.false inv))
+          c.if-j-out.branch-raw,
+    )
+
+pub returns : goal.returns
+returns c =
+    let e : c.loop-j.j ≡ c.args.count = omega arith in
+    rw (← e) c.loop-j.invariant.1
+
+pub as_element-requires : goal.as_element-requires
+as_element-requires c = fits c.before

@@ -1,0 +1,7 @@
+use native.Mathlib.Omega.{arith}
+use Rattle.rules.proofs.RefusalNumbers.{number_most}
+use borrow.Author.Rules.{rules}
+use Rattle.gooseoften.proofs.answers.code.Goals as goal
+
+pub overflow_add-result : goal.overflow_add-result
+overflow_add-result c = omega (arith, c.refusal_number.ensures, number_most c.args.refusal, c.requires)

@@ -1,0 +1,19 @@
+use mathlib.Core.Path.{ap, ◌∙◌}
+use lib.ListN.{length}
+use borrow.Author.Rules.{rules}
+use Rattle.gooseoften.specs.Answers.{find_code}
+use Rattle.gooseoften.proofs.Codes.{found_placed}
+use Rattle.gooseoften.proofs.gooseoften_find.Goals as goal
+
+pub found_code-requires : goal.found_code-requires
+found_code-requires c =
+    let f = c.args in
+    let r = c.find-answer in
+    found_placed f.board.now f.digests.now (length f.found.now) r.result _ r.ensures.0
+
+pub returns : goal.returns
+returns c =
+    let r = c.find-answer in record {
+      value = c.found_code.ensures _ ∙ ap find_code r.ensures.0;
+      found_after = r.ensures.1;
+    }

@@ -1,0 +1,25 @@
+use native.Mathlib.Omega.{arith}
+use lib.ListN.{length}
+use borrow.Author.Rules.{rules}
+use Rattle.gooseoften.proofs.Codes.{told_placed}
+use Rattle.gooseoften.proofs.Calls.{told}
+use Rattle.gooseoften.proofs.gooseoften_text.Goals as goal
+
+pub put_told-requires : goal.put_told-requires
+put_told-requires c =
+    let t = c.text-told in
+    record {
+      in_bounds = omega (arith, c.well_formed);
+      told_bound = told_placed c.args.board.now c.args.names.now (length c.args.out.now) t.result _ t.ensures.0;
+    }
+
+pub returns : goal.returns
+returns c =
+    let t = c.text-told in
+    let e = c.put_told.ensures in
+    let r = told c.args.board.now c.args.names.now c.args.answer.now _ _ (length c.args.out.now) t.result _ t.ensures.0 (e.0 _) e.1 in
+    record {
+      value = r.0;
+      answer_after = r.1;
+      out_after = t.ensures.1;
+    }

@@ -1,0 +1,33 @@
+use native.Mathlib.Omega.{arith}
+use lib.ListN.{length}
+use borrow.Author.Rules.{rules}
+use Rattle.jobs.specs.Job.{Job}
+use Rattle.gooseoften.specs.Answers.{job}
+use Rattle.gooseoften.proofs.Codes.{which_placed}
+use Rattle.gooseoften.proofs.Calls.{replied}
+use Rattle.gooseoften.proofs.gooseoften_write.Goals as goal
+
+abbrev job_at : tie.Start → Job
+job_at s = let f = s.args in job f.n f.k f.p f.q f.g0 f.counter f.label.now f.rankings.now f.kinds.now f.draws.now
+
+pub put_reply-requires : goal.put_reply-requires
+put_reply-requires c =
+    let w = c.write-written in
+    record {
+      in_bounds = omega (arith, c.well_formed);
+      reply_bound = which_placed (job_at c) (length c.args.out.now) w.result.reply w.result.order w.ensures.0;
+    }
+
+pub returns : goal.returns
+returns c =
+    let w = c.write-written in
+    let e = c.put_reply.ensures in
+    let r =
+    replied (job_at c) (length c.args.out.now) c.args.answer.now _ w.result.reply w.result.order _ w.ensures.0 w.ensures.1.0
+    e.0 e.1
+    in
+    record {
+      value = r.0;
+      answer_after = r.1;
+      out_after = w.ensures.1.1;
+    }

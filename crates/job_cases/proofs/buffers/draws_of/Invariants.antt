@@ -1,0 +1,14 @@
+use Prim.Native.Nat.{ℕ, ◌*◌, ◌-◌, ◌≤◌, ◌<◌}
+use mathlib.Core.Path.{◌≡◌}
+use native.Mathlib.Omega.{arith}
+use lib.ListN.{length, get_or, length-set}
+use borrow.Author.Rules.{rules}
+use Rattle.rules.specs.Bytes.{number4}
+use Rattle.numbers.proofs.Tables.{filled_more}
+use Rattle.job_cases.proofs.buffers.draws_of.Given as goal
+
+abbrev pub invariant-loop-i : goal.invariant-loop-i
+invariant-loop-i l = (l.i ≤ l.count) × (32768 ≡ length l.draws) × ((k : ℕ) → k < l.i → get_or l.draws k 0 ≡ number4 l.bytes (4 * k))
+
+abbrev pub decreases-loop-i : goal.decreases-loop-i
+decreases-loop-i l = l.count - l.i

@@ -1,0 +1,15 @@
+use Prim.Native.Nat.{◌+◌, ◌-◌, ◌≤◌}
+use mathlib.Core.Path.{◌≡◌, sym, ◌∙◌}
+use native.Mathlib.Omega.{arith}
+use lib.ListN.{take, drop}
+use lib.Seq.{get_or-take}
+use Rattle.jobs.specs.Job.{row_of}
+use Rattle.plain.proofs.Lists.{place_found, place_passed, place_end}
+use borrow.Author.Rules.{rules}
+use Rattle.plain.proofs.rankings.row_of.Given as goal
+
+abbrev pub invariant-loop-i : goal.invariant-loop-i
+invariant-loop-i l = (l.i ≤ l.size) × (row_of l.a (take l.size l.list) ≡ l.i + row_of l.a (drop l.i (take l.size l.list)))
+
+abbrev pub decreases-loop-i : goal.decreases-loop-i
+decreases-loop-i l = l.size - l.i

@@ -1,0 +1,51 @@
+use Prim.Native.Nat.{◌+◌, ◌-◌, ◌≤◌, ◌<◌}
+use mathlib.Core.Path.{◌≡◌, refl, sym, ap, ◌∙◌}
+use mathlib.Core.Logic.{⊎_elim}
+use native.Mathlib.Omega.{arith}
+use borrow.Author.Tests.{not-true, not-false}
+use lib.ListN.{length, get_or, length-append}
+use Rattle.rules.specs.Bytes.{part}
+use Rattle.rules.specs.Count.{member}
+use Rattle.jobs.specs.Job.{remaining}
+use Rattle.rules.specs.Answers.{with_zeros}
+use Rattle.count.specs.State.{list_of}
+use Rattle.plain.proofs.Lists.{standing_out, standing_in, part_few}
+use Rattle.count.proofs.Firsts.{pad_more}
+use borrow.Author.Rules.{rules}
+use Rattle.plain.proofs.rankings.still_in.Goals as goal
+
+pub loop-i-init : goal.loop-i-init
+unfolding with_zeros remaining
+loop-i-init c = (omega arith, refl, refl)
+
+pub loop-i-preserved : goal.loop-i-preserved
+loop-i-preserved c =
+    let l = c.loop-i in
+    let f = c.args in
+    let gone = list_of f.gone in
+    let s = f.rankings.now in
+    let x = get_or s (f.at + l.i) 0 in
+    let h : f.at + l.i < length s = omega (arith, c.requires) in
+    let told : member x gone ≡ c.is_out.result = sym (c.is_out.ensures ∙ rw c.wide.ensures) in
+    let few = part_few gone s f.at l.i in
+    let st = remaining gone (part s f.at l.i) in
+    ⊎_elim
+    (λ w.
+    let e = told ∙ not-true _ w.0.true in (
+      omega arith,
+      w.1 ∙ rw (l.invariant.1, l.invariant.2) (pad_more st (length st) x refl (omega (arith, c.requires)) ∙ ap with_zeros (standing_in gone s f.at l.i h e)),
+      w.2 ∙ rw (← (standing_in gone s f.at l.i h e)) (simp length-append (omega (arith, l.invariant.2))),
+    ))
+    (λ w.
+    let e = told ∙ not-false _ w.0.false in
+    (omega arith, w.1 ∙ l.invariant.1 ∙ ap with_zeros (standing_out gone s f.at l.i h e), w.2 ∙ l.invariant.2 ∙ ap length (standing_out gone s f.at l.i h e)))
+    c.if-not-is_out.branch-raw
+
+pub bounds-list-found : goal.bounds-list-found
+bounds-list-found c = omega (arith, part_few (list_of c.args.gone) c.args.rankings.now c.args.at c.loop-i.i, c.loop-i.invariant.2, c.requires)
+
+pub overflow_add-found : goal.overflow_add-found
+overflow_add-found c = omega (arith, part_few (list_of c.args.gone) c.args.rankings.now c.args.at c.loop-i.i, c.loop-i.invariant.2, c.requires)
+
+pub returns : goal.returns
+returns c = let l = c.loop-i in let f = c.args in let e : l.i ≡ f.n = omega arith in l.invariant.1 ∙ rw e

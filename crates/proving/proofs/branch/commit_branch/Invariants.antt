@@ -1,0 +1,33 @@
+use Prim.Native.Nat.{ℕ, ◌+◌, ◌-◌, ◌*◌, ◌^◌, ◌≤◌, ◌<◌}
+use mathlib.Core.Path.{◌≡◌, refl, ◌∙◌}
+use mathlib.Core.List.{List, ◌++◌}
+use native.Mathlib.Omega.{arith}
+use lib.Dec.{eqb}
+use lib.ListN.{length, get_or, length-take, length-drop}
+use Rattle.group.specs.Elements.{parameters_of}
+use Rattle.rules.specs.Bytes.{bytes4}
+use Rattle.sha256.specs.Feed.{Fed}
+use Rattle.statements.specs.Claims.{claim_of}
+use Rattle.output.specs.Written.{written}
+use Rattle.rules.specs.Proofs.{Commitments, statement_bytes}
+use Rattle.jobs.specs.Prover.{commitment_bytes, branch_bytes}
+use Rattle.proving.specs.Plans.{branch_said, drafted}
+use Rattle.proving.proofs.Stating.{stated_as}
+use Rattle.proving.proofs.Draws.{draft_near, draft_at, draft_fits, draft_low}
+use Rattle.statements.proofs.Branches.{fed_below_none, fed_below_more}
+use Rattle.proving.proofs.Branches.{branch_none, branch_more, drafted_branch}
+use borrow.Author.Rules.{rules}
+use Rattle.proving.proofs.branch.commit_branch.Given as goal
+
+abbrev pub invariant-loop-i : goal.invariant-loop-i
+invariant-loop-i l =
+    let e = l.e.0 in
+    let cl = claim_of l.page (parameters_of l.g.group) l.claim l.l in
+    let r : ℕ → ℕ = λ i. get_or l.draws (l.first + i) 0 in
+    let t : ℕ → Commitments = λ i. drafted (parameters_of l.g.group) (cl i) l.known e (r i) in
+    (i ≤ l.statements) × (length l.out ≡ length l.initial.out)
+    × ((o : List ℕ) → l.initial.out ≡ written (bytes4 e) o → l.out ≡ written (branch_bytes e i (λ i. commitment_bytes (t i)) r) o)
+    × ((m : List ℕ) → Fed l.initial.k m → Fed l.k (m ++ branch_said i cl t))
+
+abbrev pub decreases-loop-i : goal.decreases-loop-i
+decreases-loop-i l = l.statements - l.i

@@ -1,0 +1,7 @@
+use mathlib.Core.Path.{◌∙◌}
+use native.Mathlib.Nat.{add-mod-mod}
+use borrow.Author.Rules.{rules}
+use Rattle.proving.proofs.branch.response.Goals as goal
+
+pub returns : goal.returns
+returns c = c.add.ensures ∙ rw (c.mul_exp.ensures, add-mod-mod)

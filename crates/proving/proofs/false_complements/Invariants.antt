@@ -1,0 +1,16 @@
+use Prim.Native.Nat.{◌-◌, ◌*◌, ◌≤◌, ◌<◌}
+use mathlib.Core.Path.{◌≡◌, refl, ◌∙◌}
+use mathlib.Core.Logic.{⊎_elim}
+use native.Mathlib.Omega.{arith}
+use lib.ListN.{get_or}
+use Rattle.numbers.specs.Below.{sum_below}
+use Rattle.proving.specs.Plans.{false_complements}
+use Rattle.proving.proofs.Draws.{false_fits, false_low, against_true, against_false}
+use borrow.Author.Rules.{rules}
+use Rattle.proving.proofs.false_complements.Given as goal
+
+abbrev pub invariant-loop-l : goal.invariant-loop-l
+invariant-loop-l l = (l.l ≤ l.branches) × (l.branches ≤ 8) × (l.sum ≤ l.l * 4294967296) × (l.sum ≡ false_complements l.q l.plan l.draws l.l)
+
+abbrev pub decreases-loop-l : goal.decreases-loop-l
+decreases-loop-l l = l.branches - l.l

@@ -1,0 +1,22 @@
+use Prim.Native.Nat.{◌-◌}
+use mathlib.Core.Path.{◌≡◌, refl}
+use native.Mathlib.Omega.{arith}
+use lib.ListN.{length}
+use borrow.Author.Rules.{rules}
+use Rattle.output.proofs.Laws.{Copied, copied_none, copied_more, copied_all}
+use Rattle.receipts.proofs.put_numbers.Goals as goal
+
+pub loop-i-init : goal.loop-i-init
+loop-i-init c = (refl, copied_none _ _)
+
+pub bounds-found-i : goal.bounds-found-i
+bounds-found-i c = omega (arith, c.loop-i.invariant.1.long)
+
+pub loop-i-preserved : goal.loop-i-preserved
+loop-i-preserved c = (refl, copied_more _ _ c.loop-i.invariant.1 (omega arith) c.requires)
+
+pub shape_of-found : goal.shape_of-found
+shape_of-found c = c.loop-i.invariant.1.long
+
+pub returns : goal.returns
+returns c = copied_all _ _ c.loop-i.invariant.1 (omega arith)

@@ -1,0 +1,13 @@
+use Rattle.std.proofs.Common.{◌≡◌, ◌-◌, ◌<◌, ◌≤◌, length, get_or, take, drop, sym, ap, ◌∙◌, arith, length-drop, take_all, rules}
+use Rattle.sha256.specs.Message.{sha256}
+use Rattle.sha256.specs.Stream.{Stream, empty, feed, feed_all, digest_of, pieces_from}
+use Rattle.sha256.specs.Feed.{stream_of}
+use Rattle.sha256.proofs.Pieces.{pieces}
+use Rattle.sha256.proofs.Cuts.{cut_told, piece_more, piece_last}
+use Rattle.sha256.proofs.digest_in_pieces.Given as goal
+
+abbrev pub invariant-loop-cut : goal.invariant-loop-cut
+invariant-loop-cut l = (l.at ≤ length l.message) × (l.i ≤ length l.cuts) × (feed_all (stream_of l.h) (pieces_from l.message l.at (drop l.i l.cuts)) ≡ feed_all empty (pieces_from l.message 0 l.cuts))
+
+abbrev pub decreases-loop-cut : goal.decreases-loop-cut
+decreases-loop-cut l = length l.cuts - l.i

@@ -1,0 +1,120 @@
+use Prim.Native.Nat.{ℕ, ◌+◌, ◌*◌, ◌-◌, ◌≤◌, ◌<◌}
+use mathlib.Core.Path.{◌≡◌, refl, sym, ◌∙◌}
+use mathlib.Core.Bool.{true}
+use native.Mathlib.Omega.{arith}
+use lib.Dec.{leb, ltb}
+use lib.ListN.{length, take, length-set}
+use borrow.Author.Rules.{rules}
+use Rattle.numbers.specs.Below.{all_below}
+use Rattle.numbers.proofs.Tests.{all_none, all_more, all_end}
+use Rattle.fields.proofs.Values.{count_value, count_refused, exponent_value, exponent_refused}
+use Rattle.rules.specs.Bytes.{number2, number4}
+use Rattle.rules.specs.Count.{table}
+use Rattle.sheets.specs.Sheets.{Counted, exponent_of, count_good}
+use Rattle.sheets.proofs.SheetTable.{pass, count_large, exponent_large, table_more}
+use Rattle.sheets.proofs.SheetSteps.{exponents_more}
+use Rattle.sheets.proofs.sheet_fields.Goals as goal
+
+pub loop-i-init : goal.loop-i-init
+unfolding table
+loop-i-init c = (omega arith, omega arith, refl, refl, all_none _, refl, λ j l. absurd (omega arith))
+
+-- what the walk learns of a count and of an exponent
+counted : (c : goal.In-Value) →
+    let a = c.args in
+    let l = c.loop-i in
+    let v = c.count-1.given.0 in
+    (leb (number2 a.board.now (a.at + 4 + 6 * l.i)) a.ballots ≡ true) × (v.1.0 ≡ a.at + 6 + 6 * l.i)
+    × (v.0 ≡ number2 a.board.now (a.at + 4 + 6 * l.i))
+counted c =
+    let a = c.args in
+    let l = c.loop-i in
+    let w = count_value a.board.now l.place a.ballots (sym c.count.ensures ∙ c.in-Value.is) in
+    (rw (← l.invariant.1) w.0, omega (arith, w.1), rw (← l.invariant.1) w.2)
+
+raised : (c : goal.In-Value-exponent) →
+    let a = c.args in
+    let l = c.loop-i in
+    let v = c.x-1.given.0 in
+    (ltb (number4 a.board.now (a.at + 6 + 6 * l.i)) a.h.setup.group.q ≡ true) × (v.1.0 ≡ a.at + 4 + 6 * (l.i + 1))
+    × (v.0.0 ≡ number4 a.board.now (a.at + 6 + 6 * l.i))
+raised c =
+    let a = c.args in
+    let e = (counted c.before.before.before.before).1 in
+    let w = exponent_value a.board.now c.in-Value.after a.h.setup.group.q
+    (sym c.exponent.ensures ∙ c.in-Value-exponent.is) in
+    (rw (← e) w.0, omega (arith, w.1), rw (← e) w.2)
+
+room : (c : goal.In-Value-exponent) →
+    (c.loop-i.i < c.args.h.n)
+    × (c.args.h.n ≤ 8)
+room c = (c.loop-i-test.true, c.requires.0.high)
+
+pub returns-in_default : goal.returns-in_default
+unfolding Counted
+returns-in_default c =
+    let a = c.args in
+    let l = c.loop-i in
+    count_large a.board.now a.h a.ballots a.at a.h.n l.i c.loop-i-test.true l.invariant.4
+    (rw (← l.invariant.1) (count_refused a.board.now l.place a.ballots (sym c.count.ensures ∙ c.in_default.is)))
+
+pub returns-in_default-exponent : goal.returns-in_default-exponent
+unfolding Counted
+returns-in_default-exponent c =
+    let a = c.args in
+    let l = c.loop-i in
+    let k = counted c.before.before.before in
+    exponent_large a.board.now a.h a.ballots a.at a.h.n l.i c.loop-i-test.true l.inv.4 k.0
+    (rw (← k.1) (exponent_refused a.board.now c.in-Value.after a.h.setup.group.q
+    (sym c.exponent.ensures ∙ c.in_default-exponent.is)))
+
+pub loop-i-preserved : goal.loop-i-preserved
+loop-i-preserved c =
+    let a = c.args in
+    let l = c.loop-i in
+    let k = counted c.before.before.before.before in
+    let x = raised c in (
+      omega (arith, room c),
+      x.1,
+      simp length-set l.inv.2,
+      simp length-set l.inv.3,
+      all_more _ _ l.inv.4 (rw k.0 x.0),
+      table_more (λ i. number2 a.board.now (a.at + 4 + 6 * i)) l.counts l.i _ (omega (arith, room c)) l.inv.5 k.2,
+      exponents_more (λ i. number4 a.board.now (a.at + 6 + 6 * i)) l.s l.i _ (omega (arith, room c)) l.inv.6 x.2,
+    )
+
+pub returns : goal.returns
+unfolding Counted
+returns c =
+    let a = c.args in
+    let l = c.loop-i in
+    let e : l.i ≡ a.h.n = omega arith in (
+      pass a.board.now a.h a.ballots a.at a.h.n
+          (all_end a.h.n l.i (count_good a.board.now a.ballots a.h.setup.group.q a.at) l.invariant.0 c.loop-i-test.false l.invariant.4),
+      rw e at l.invariant.5,
+      rw e at l.invariant.6,
+    )
+
+pub overflow_add-place : goal.overflow_add-place
+overflow_add-place c = omega (arith, c.well_formed)
+
+pub exponent-requires : goal.exponent-requires
+exponent-requires c = omega (arith, (counted c).1)
+
+pub offset_bounds-counts-i : goal.offset_bounds-counts-i
+offset_bounds-counts-i c = omega (arith, room c)
+
+pub bounds-counts-i : goal.bounds-counts-i
+bounds-counts-i c = omega (arith, room c)
+
+pub offset_bounds-s-i : goal.offset_bounds-s-i
+offset_bounds-s-i c = omega (arith, room c)
+
+pub bounds-s-i : goal.bounds-s-i
+bounds-s-i c = omega (arith, room c)
+
+pub overflow_step-i : goal.overflow_step-i
+overflow_step-i c = omega (arith, room c)
+
+pub loop-i-smaller : goal.loop-i-smaller
+loop-i-smaller c = omega (arith, room c)

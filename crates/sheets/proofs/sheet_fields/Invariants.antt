@@ -1,0 +1,24 @@
+use Prim.Native.Nat.{ℕ, ◌+◌, ◌*◌, ◌-◌, ◌≤◌, ◌<◌}
+use mathlib.Core.Path.{◌≡◌, refl, sym, ◌∙◌}
+use mathlib.Core.Bool.{true}
+use native.Mathlib.Omega.{arith}
+use lib.Dec.{leb, ltb}
+use lib.ListN.{length, take, length-set}
+use borrow.Author.Rules.{rules}
+use Rattle.numbers.specs.Below.{all_below}
+use Rattle.numbers.proofs.Tests.{all_none, all_more, all_end}
+use Rattle.fields.proofs.Values.{count_value, count_refused, exponent_value, exponent_refused}
+use Rattle.rules.specs.Bytes.{number2, number4}
+use Rattle.rules.specs.Count.{table}
+use Rattle.sheets.specs.Sheets.{Counted, exponent_of, count_good}
+use Rattle.sheets.proofs.SheetTable.{pass, count_large, exponent_large, table_more}
+use Rattle.sheets.proofs.SheetSteps.{exponents_more}
+use Rattle.sheets.proofs.sheet_fields.Given as goal
+
+abbrev pub invariant-loop-i : goal.invariant-loop-i
+invariant-loop-i l =
+    (l.i ≤ l.n) × (l.place ≡ l.at + 4 + 6 * l.i) × (length l.counts ≡ 8) × (length l.s ≡ 8) × (all_below l.i (count_good l.board l.most l.q l.at) ≡ true)
+    × (take l.i l.counts ≡ table l.i (λ i. number2 l.board (l.at + 4 + 6 * i))) × ((j : ℕ) → j < l.i → exponent_of l.s j ≡ number4 l.board (l.at + 6 + 6 * j))
+
+abbrev pub decreases-loop-i : goal.decreases-loop-i
+decreases-loop-i l = l.n - l.i

@@ -1,0 +1,40 @@
+use Prim.Native.Nat.{ℕ, ◌+◌, ◌*◌, ◌-◌, ◌%◌, ◌≤◌, ◌<◌, ◌^◌}
+use mathlib.Core.Path.{◌≡◌, refl, sym, ◌∙◌, ap}
+use mathlib.Core.Logic.{⊎_elim}
+use mathlib.Core.Bool.{true, false, true≢false}
+use mathlib.Core.List.{List, ◌++◌}
+use native.Mathlib.Nat.{zero-mod}
+use native.Mathlib.Omega.{arith}
+use borrow.Author.Rules.{rules}
+use borrow.Author.Tests.{not-true, not-false}
+use lib.ListN.{length}
+use Rattle.numbers.specs.Below.{all_below, sum_below, concat_below}
+use Rattle.numbers.proofs.Tests.{all_none, all_more, all_end}
+use Rattle.sha256.specs.Feed.{Fed}
+use Rattle.sha256.specs.Message.{sha256}
+use Rattle.sha256.proofs.Feed.{fed_more, fed_digest}
+use Rattle.group.specs.Elements.{parameters_of}
+use Rattle.rules.specs.Bytes.{number8}
+use Rattle.rules.specs.Proofs.{Context, context_bytes, proof_holds, branch_at, statement_at}
+use Rattle.statements.specs.Claims.{claim_of}
+use Rattle.statements.proofs.Branches.{here, branch_here, piece, pieces, challenges, within, branch_within, sum_more, fails_there, sums_up, fed_below_none, fed_below_more, fed_branch}
+use Rattle.statements.proofs.proof.proof_holds.Given as goal
+
+abbrev pub invariant-loop-i : goal.invariant-loop-i
+invariant-loop-i l =
+    (l.i ≤ l.statements) × (l.ok ≡ true)
+    × (all_below l.i (here l.board l.g.group.p l.bases.first.0 l.bases.second.0 (claim_of l.board (parameters_of l.g.group) l.claim) l.at l.statements l.l) ≡ true)
+    × ((m : List ℕ) → Fed l.initial.h m → Fed l.h (m ++ concat_below l.i (piece l.board (claim_of l.board (parameters_of l.g.group) l.claim) l.at l.statements l.l)))
+
+abbrev pub decreases-loop-i : goal.decreases-loop-i
+decreases-loop-i l = l.statements - l.i
+
+abbrev pub invariant-branches : goal.invariant-branches
+invariant-branches l =
+    (l.l ≤ l.branches) × (l.ok ≡ true)
+    × (all_below l.l (branch_here l.board l.g.group.p l.bases.first.0 l.bases.second.0 (claim_of l.board (parameters_of l.g.group) l.claim) l.at l.statements) ≡ true)
+    × (l.sum.0 ≡ sum_below l.l (challenges l.board l.at l.statements) % l.g.group.q)
+    × ((m : List ℕ) → Fed l.initial.h m → Fed l.h (m ++ concat_below l.l (pieces l.board (claim_of l.board (parameters_of l.g.group) l.claim) l.at l.statements)))
+
+abbrev pub decreases-branches : goal.decreases-branches
+decreases-branches l = l.branches - l.l

@@ -1,0 +1,15 @@
+use Prim.Native.Nat.{◌+◌, ◌*◌, ◌-◌, ◌≤◌}
+use mathlib.Core.Path.{sym, ◌∙◌}
+use native.Mathlib.Nat.{mul-le-mul_right}
+use native.Mathlib.Omega.{arith}
+use borrow.Author.Rules.{rules}
+use Rattle.rules.specs.Proofs.{proof_fields}
+use Rattle.statements.specs.Walks.{branch_fields}
+use Rattle.statements.proofs.Reading.{Walked, walked_none, walked_more, walked_bad, walked_end}
+use Rattle.statements.proofs.walks.proof_fields.Given as goal
+
+abbrev pub invariant-loop-i : goal.invariant-loop-i
+invariant-loop-i l = (l.i ≤ l.branches) × Walked (λ x. branch_fields l.board x l.statements l.p l.q) (λ i. l.at + i * (4 + 12 * l.statements)) l.i l.place
+
+abbrev pub decreases-loop-i : goal.decreases-loop-i
+decreases-loop-i l = l.branches - l.i

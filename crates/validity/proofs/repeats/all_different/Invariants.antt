@@ -1,0 +1,21 @@
+use Prim.Native.Nat.{◌-◌, ◌≤◌}
+use mathlib.Core.Path.{◌≡◌, sym, subst, ◌∙◌}
+use mathlib.Core.Bool.{true}
+use native.Mathlib.Omega.{arith}
+use Rattle.jobs.specs.Write.{different}
+use Rattle.jobs.proofs.Repeats.{different_none, different_more, different_fails}
+use Rattle.validity.proofs.Chains.{Chained, Searched, chained_none, chained_more, search_starts, search_goes_on, search_ends}
+use borrow.Author.Rules.{rules}
+use Rattle.validity.proofs.repeats.all_different.Given as goal
+
+abbrev pub invariant-loop-h : goal.invariant-loop-h
+invariant-loop-h l = Searched l.draws l.from l.j l.h
+
+abbrev pub decreases-loop-h : goal.decreases-loop-h
+decreases-loop-h l = l.h
+
+abbrev pub invariant-loop-j : goal.invariant-loop-j
+invariant-loop-j l = (l.j ≤ l.size) × (different l.draws l.from l.j ≡ true) × Chained l.draws l.from l.last l.prior l.j
+
+abbrev pub decreases-loop-j : goal.decreases-loop-j
+decreases-loop-j l = l.size - l.j

@@ -1,0 +1,27 @@
+use Prim.Native.Nat.{ℕ, ◌-◌, ◌≤◌}
+use mathlib.Core.Path.{◌≡◌, refl, sym, ◌∙◌}
+use mathlib.Core.Bool.{true}
+use mathlib.Core.List.{List}
+use native.Mathlib.Omega.{arith}
+use lib.ListN.{get_or}
+use borrow.Author.Tests.{not-true, not-false}
+use Rattle.numbers.specs.Below.{all_below}
+use Rattle.numbers.proofs.Tests.{all_none, all_more, all_end}
+use Rattle.jobs.specs.Job.{record_draws, record_secrets, round_draws, draws_at}
+use Rattle.jobs.specs.Write.{different}
+use Rattle.jobs.proofs.Draws.{secrets_within, draws_start, draws_step, draws_end, draws_among}
+use Rattle.validity.proofs.Walk.{record_good, round_good, repeats}
+use borrow.Author.Rules.{rules}
+use Rattle.validity.proofs.repeats.none_repeats.Given as goal
+
+abbrev pub invariant-loop-b : goal.invariant-loop-b
+invariant-loop-b l = (l.b ≤ l.k) × (l.at ≡ draws_at l.n (kind_at l.kinds) l.k l.m l.b) × (all_below l.b (record_good l.draws l.n (kind_at l.kinds) l.k l.m) ≡ true)
+
+abbrev pub decreases-loop-b : goal.decreases-loop-b
+decreases-loop-b l = l.k - l.b
+
+abbrev pub invariant-loop-m : goal.invariant-loop-m
+invariant-loop-m l = (l.m ≤ l.rounds) × (l.at ≡ round_draws l.n (kind_at l.kinds) l.k l.m) × (all_below l.m (round_good l.draws l.n (kind_at l.kinds) l.k) ≡ true)
+
+abbrev pub decreases-loop-m : goal.decreases-loop-m
+decreases-loop-m l = l.rounds - l.m

@@ -1,0 +1,22 @@
+use borrow.Author.Rules.{rules}
+use mathlib.Core.Path.{◌≡◌, refl}
+use Prim.Native.Nat.{ℕ, ◌+◌, ◌*◌, ◌-◌, ◌≤◌, ◌<◌}
+use native.Mathlib.Nat.{mul-le-mul}
+use native.Mathlib.Omega.{arith}
+use lib.ListN.{length, get_or, length-set, length-replicate}
+use Rattle.numbers.proofs.Tables.{filled_more}
+use Rattle.vectors.proofs.squares.Goals as goal
+
+pub loop-i-preserved : goal.loop-i-preserved
+loop-i-preserved c =
+    let l = c.loop-i in
+    (omega arith, simp length-set l.invariant.1, filled_more (λ k. (k + 1) * (k + 1)) l.cuts l.i _ (omega arith) refl l.invariant.2)
+
+pub loop-i-init : goal.loop-i-init
+loop-i-init c = (search rules, length-replicate {A = ℕ} 256 0, λ k h. omega arith)
+
+pub overflow_mul-cuts : goal.overflow_mul-cuts
+overflow_mul-cuts c = omega (arith, mul-le-mul {n₁ = c.loop-i.i + 1} {m₁ = c.loop-i.i + 1} {n₂ = 256} {m₂ = 256} (omega arith) (omega arith))
+
+pub returns : goal.returns
+returns c = let l = c.loop-i in (omega arith, λ i h. l.invariant.2 i (omega arith))
