@@ -10,7 +10,7 @@ use lib.ListN.{length}
 use borrow.Author.Tests.{ltb-true, leb-true, le-leb, eqb-true, eqb-false, not-true}
 use Rattle.jobs.specs.Job.{board_length, Job, group_of, ranking_of, kind_of, counted_below, needed, draw}
 use Rattle.rules.specs.Records.{is_counted, is_audited}
-use Rattle.rules.specs.Tests.{first_fault, ◌orElse◌}
+use Rattle.rules.specs.Tests.{first_fault, ◌or_else◌}
 use Rattle.numbers.proofs.Tests.{all_at}
 use Rattle.rules.specs.Group.{orders, generators}
 use Rattle.group.specs.Elements.{is_element}

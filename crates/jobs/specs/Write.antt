@@ -4,7 +4,7 @@ use Rattle.numbers.specs.Below.{all_below, first_below}
 use Rattle.rules.specs.Records.{is_counted, is_audited}
 use Rattle.rules.specs.Group.{orders, generators}
 use Rattle.rules.specs.Count.{is_ranking}
-use Rattle.rules.specs.Tests.{first_fault, ◌orElse◌}
+use Rattle.rules.specs.Tests.{first_fault, ◌or_else◌}
 use Rattle.rules.specs.Header.{ranked, sizes}
 use Rattle.jobs.specs.Job.{Job, group_of, ranking_of, kind_of, counted_below, record_secrets, draws_at, draw, needed, board_length, plain_result}
 use Rattle.jobs.specs.Board.{board}

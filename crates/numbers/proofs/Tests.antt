@@ -1,7 +1,7 @@
 -- Tests that hold or fail: conjunctions, and tests of all numbers below a bound.
 use Prim.Native.Nat.{ℕ, zero, suc, ◌+◌, ◌*◌, ◌≤◌, ◌<◌}
 use mathlib.Core.Path.{◌≡◌, refl}
-use mathlib.Core.Bool.{Bool, true, false, ◌&&◌, ◌||◌, true≢false, or-true, and-eq-true_iff, and_assoc, and-true as and-unit}
+use mathlib.Core.Bool.{Bool, true, false, ◌&&◌, ◌||◌, true≢false, or-true, and-eq-true_iff, and_assoc, and-true as and_unit}
 use mathlib.Core.Logic.{⊎_elim}
 use native.Mathlib.Nat.{eq-or-lt_of_le, le_of_suc-le-suc, add-zero, add-suc, zero-mul, suc-mul}
 use native.Mathlib.Numerals.{add-one}
@@ -13,13 +13,13 @@ pub by_cases {ℓ} : {P : Type ℓ} (b : Bool) → (b ≡ true → P) → (b ≡
 by_cases true f g = f refl
 by_cases false f g = g refl
 
-pub and-true : {a b : Bool} → a ≡ true → b ≡ true → a && b ≡ true
-and-true p q = rw (p, q)
+pub and_true : {a b : Bool} → a ≡ true → b ≡ true → a && b ≡ true
+and_true p q = rw (p, q)
 
 pub all_true : (n : ℕ) (f : ℕ → Bool) → ((i : ℕ) → i < n → f i ≡ true) → all_below n f ≡ true
 unfolding all_below
 all_true zero f h = refl
-all_true (suc n) f h = and-true (all_true n f (λ i l. h i (omega arith))) (h n (omega arith))
+all_true (suc n) f h = and_true (all_true n f (λ i l. h i (omega arith))) (h n (omega arith))
 
 pub all_at : (n : ℕ) (f : ℕ → Bool) → all_below n f ≡ true → (i : ℕ) → i < n → f i ≡ true
 unfolding all_below
@@ -60,7 +60,7 @@ all_end n i f a b h = let e : n ≡ i = omega arith in rw e h
 -- rows of n, one after another
 pub all_add : (a b : ℕ) (f : ℕ → Bool) → all_below (a + b) f ≡ (all_below a f && all_below b (λ j. f (a + j)))
 unfolding all_below
-all_add a zero f = rw (add-zero, and-unit)
+all_add a zero f = rw (add-zero, and_unit)
 all_add a (suc b) f = rw (add-suc, all_add a b f, and_assoc)
 
 pub all_grid : (m n : ℕ) (f : ℕ → Bool) → all_below m (λ i. all_below n (λ j. f (i * n + j))) ≡ all_below (m * n) f

@@ -11,7 +11,7 @@ use borrow.Author.Tests.{leb-true, le-leb}
 use Rattle.numbers.proofs.Tests.{by_cases, and_true}
 use Rattle.rules.specs.Group.{orders, generators}
 use Rattle.rules.specs.Records.{has_mark, header_length}
-use Rattle.rules.specs.Tests.{Test, first_fault, ◌orElse◌}
+use Rattle.rules.specs.Tests.{Test, first_fault, ◌or_else◌}
 use Rattle.rules.specs.Header.{ranked, small, sizes, limits, header, counter_field, header_fault}
 use Rattle.rules.specs.Check.{refused, check_model, check_board, check_small}
 use Rattle.rules.specs.declared.Model.{Model}

@@ -6,7 +6,7 @@ use Rattle.rules.specs.Bytes.{number2}
 use Rattle.rules.specs.Records.{BA, kind_at, is_counted, is_audited, ballot_length}
 use Rattle.rules.specs.Proofs.{Statement, Context, proof_fields, proof_holds}
 use Rattle.rules.specs.Claims.{Matrix, matrix_at, entry_claim, row_claim, column_claim}
-use Rattle.rules.specs.Tests.{Test, first_fault, ◌orElse◌, frame}
+use Rattle.rules.specs.Tests.{Test, first_fault, ◌or_else◌, frame}
 use Rattle.rules.specs.Header.{Header}
 use Rattle.rules.specs.Audit.{exponents_good, opens_as_shown}
 

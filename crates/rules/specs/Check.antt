@@ -5,7 +5,7 @@ use Rattle.numbers.specs.Below.{sum_below}
 use Rattle.rules.specs.Records.{header_length, kind_at, is_counted, records_of, record_length, sheet_length, pairs_from}
 use Rattle.rules.specs.Claims.{Matrix, matrix_at}
 use Rattle.rules.specs.Count.{Standing, start, next, leaves, wins, closes}
-use Rattle.rules.specs.Tests.{first_fault, fault_below, ◌orElse◌}
+use Rattle.rules.specs.Tests.{first_fault, fault_below, ◌or_else◌}
 use Rattle.rules.specs.Header.{ranked, small, Header, header, header_fault}
 use Rattle.rules.specs.Ballot.{ballot_tests}
 use Rattle.rules.specs.Shift.{shift_fault}

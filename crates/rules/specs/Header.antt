@@ -4,7 +4,7 @@ use Rattle.group.specs.Elements.{Parameters}
 use Rattle.rules.specs.Bytes.{number4, number2, part}
 use Rattle.rules.specs.Group.{orders, generators}
 use Rattle.rules.specs.Records.{HF, has_mark, header_length}
-use Rattle.rules.specs.Tests.{first_fault, ◌orElse◌}
+use Rattle.rules.specs.Tests.{first_fault, ◌or_else◌}
 use Rattle.rules.specs.declared.Model.{Model}
 
 -- "n is the number of processes (2 to 8, numbered from 1), K the number of ballots (1 to 1,000)."; 02, L12: "the box keeps 8 and 1,000"

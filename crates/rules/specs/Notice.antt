@@ -4,7 +4,7 @@ use Rattle.std.specs.Prelude.{ℕ, zero, suc, ◌+◌, Bool, cond, not, ◌&&◌
 use Rattle.numbers.specs.Below.{all_below}
 use Rattle.rules.specs.Bytes.{part}
 use Rattle.rules.specs.Count.{table, Result}
-use Rattle.rules.specs.Tests.{first_fault, ◌orElse◌}
+use Rattle.rules.specs.Tests.{first_fault, ◌or_else◌}
 use Rattle.rules.specs.Header.{header}
 use Rattle.rules.specs.Check.{accepted, refused, counts, check_board}
 use Rattle.rules.specs.Receipts.{same}

@@ -6,7 +6,7 @@ use Rattle.numbers.specs.Below.{all_below, first_below}
 use Rattle.rules.specs.Bytes.{part}
 use Rattle.rules.specs.Records.{ballot_length}
 use Rattle.rules.specs.Count.{table}
-use Rattle.rules.specs.Tests.{first_fault, fault_below, ◌orElse◌}
+use Rattle.rules.specs.Tests.{first_fault, fault_below, ◌or_else◌}
 use Rattle.rules.specs.Header.{ranked, header, header_fault}
 use Rattle.rules.specs.Ballot.{ballot_frame}
 use Rattle.rules.specs.Check.{place, kind, record_number}

@@ -7,7 +7,7 @@ use Rattle.rules.specs.Group.{paired}
 use Rattle.rules.specs.Records.{RT, sheet_length}
 use Rattle.rules.specs.Claims.{Matrix}
 use Rattle.rules.specs.Count.{table}
-use Rattle.rules.specs.Tests.{Test, first_fault, ◌orElse◌, frame}
+use Rattle.rules.specs.Tests.{Test, first_fault, ◌or_else◌, frame}
 use Rattle.rules.specs.Header.{Header}
 
 -- "over all K ballots' first rows: product of b", "product of Y"; 02, L5: an audited ballot "enters no product". Those of the ballots so far, by column

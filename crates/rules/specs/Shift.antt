@@ -4,7 +4,7 @@ use Rattle.rules.specs.Bytes.{number2}
 use Rattle.rules.specs.Records.{SH, shift_length}
 use Rattle.rules.specs.Proofs.{Context, proof_fields}
 use Rattle.rules.specs.Claims.{matrix_at, shift_claim}
-use Rattle.rules.specs.Tests.{Test, first_fault, ◌orElse◌, frame}
+use Rattle.rules.specs.Tests.{Test, first_fault, ◌or_else◌, frame}
 use Rattle.rules.specs.Header.{Header}
 use Rattle.rules.specs.Ballot.{pairs_good, holds_at}
 

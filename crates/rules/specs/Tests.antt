@@ -8,8 +8,8 @@ pub record Test : Type 0 where
   pub holds : Bool
   pub refusal : ℕ
 
-infix 5 ◌orElse◌
-abbrev pub ◌orElse◌ : Bool → ℕ → Test
+infix 5 ◌or_else◌
+abbrev pub ◌or_else◌ : Bool → ℕ → Test
 b or_else r = record { holds = b; refusal = r }
 
 -- the refusal of the first test that fails; 0 where all hold

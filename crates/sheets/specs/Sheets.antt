@@ -3,7 +3,7 @@ use Rattle.std.specs.Prelude.{ℕ, ◌+◌, ◌*◌, ◌≤◌, ◌<◌, ◌≡�
 use Rattle.group.specs.declared.Exponent.{Exponent}
 use Rattle.rules.specs.Bytes.{number2, number4}
 use Rattle.rules.specs.Count.{table, next, ended, leaves, wins, closes}
-use Rattle.rules.specs.Tests.{Test, first_fault, ◌orElse◌}
+use Rattle.rules.specs.Tests.{Test, first_fault, ◌or_else◌}
 use Rattle.rules.specs.Sheet.{Tally, counts_at, sheet_fields, sheet_fault}
 use Rattle.rules.specs.Check.{due}
 use Rattle.rules.specs.Answers.{refusal_number}

@@ -17,8 +17,8 @@ loop-t-preserved c = (
       refl
       c.temp1-t1.ensures
       c.temp2-t2.ensures
-      c.wrapping_add_u32-e.ensures
-      c.wrapping_add_u32-a.ensures,
+      c.wrapping_add_u32-e.ensures.value
+      c.wrapping_add_u32-a.ensures.value,
 )
 
 pub returns : goal.returns
@@ -27,11 +27,11 @@ returns c =
     c.expand.ensures
     (omega (arith, c))
     c.loop-t.invariant.1
-    c.wrapping_add_u32.ensures
-    c.wrapping_add_u32-2.ensures
-    c.wrapping_add_u32-3.ensures
-    c.wrapping_add_u32-4.ensures
-    c.wrapping_add_u32-5.ensures
-    c.wrapping_add_u32-6.ensures
-    c.wrapping_add_u32-7.ensures
-    c.wrapping_add_u32-8.ensures
+    c.wrapping_add_u32.ensures.value
+    c.wrapping_add_u32-2.ensures.value
+    c.wrapping_add_u32-3.ensures.value
+    c.wrapping_add_u32-4.ensures.value
+    c.wrapping_add_u32-5.ensures.value
+    c.wrapping_add_u32-6.ensures.value
+    c.wrapping_add_u32-7.ensures.value
+    c.wrapping_add_u32-8.ensures.value

@@ -17,8 +17,8 @@ returns-in-Accepted c =
     let r = c.count_board-counted in
     let e = tells c.args.board.now c.args.names.now (length c.args.out.now) r.result r.ensures _ _ c.in-Accepted.is in
     record {
-      out_after = c.tell.ensures.0 ∙ e;
-      out_after_2 = c.tell.ensures.1 ∙ ap (λ (t : Telling). output_after t c.args.out.now) e;
+      out_after = c.tell.ensures.out_after ∙ e;
+      out_after_2 = c.tell.ensures.out_after_2 ∙ ap (λ (t : Telling). output_after t c.args.out.now) e;
     }
 
 pub returns-in-Refused : goal.returns-in-Refused

@@ -24,4 +24,4 @@ pub returns : goal.returns
 unfolding HeaderReads
 returns c =
     let r = told c.before.before.before.before.before.before.before.before.before.before _ c.in-Board.is in
-    front_back c.args.count _ _ _ _ c.find_in_ballots.result r.0 c.requires.1 c.requires.3 c.find_in_ballots.ensures.0 c.find_in_ballots.ensures.1
+    front_back c.args.count _ _ _ _ c.find_in_ballots.result r.0 c.requires.1 c.requires.3 c.find_in_ballots.ensures.found_after c.find_in_ballots.ensures.found_after_2

@@ -10,7 +10,7 @@ use Rattle.boardcheck.proofs.input.read_whole.Goals as goal
 
 -- the bytes moved: at least one, and no more than there was room for
 moved : (c : goal.In-More-2) → Moves (length c.loop-at.room - c.loop-at.at) (More c.in-More.count)
-moved c = rw c.in-More.is at c.read_some-step.ensures.0
+moved c = rw c.in-More.is at c.read_some-step.ensures.moves
 
 pub overflow_add-at : goal.overflow_add-at
 overflow_add-at c = omega (arith, moved c.before, c.well_formed)
@@ -19,10 +19,10 @@ pub loop-at-smaller-in-More : goal.loop-at-smaller-in-More
 loop-at-smaller-in-More c = omega (arith, moved c.before)
 
 pub loop-at-preserved-in-More : goal.loop-at-preserved-in-More
-loop-at-preserved-in-More c = (omega (arith, c.read_some-step.ensures.1), omega (arith, moved c.before, c.read_some-step.ensures.1))
+loop-at-preserved-in-More c = (omega (arith, c.read_some-step.ensures.room_len_unchanged), omega (arith, moved c.before, c.read_some-step.ensures.room_len_unchanged))
 
 pub loop-at-preserved : goal.loop-at-preserved
-loop-at-preserved c = (omega (arith, c.read_some-step.ensures.1), omega (arith, c.read_some-step.ensures.1))
+loop-at-preserved c = (omega (arith, c.read_some-step.ensures.room_len_unchanged), omega (arith, c.read_some-step.ensures.room_len_unchanged))
 
 pub returns-in-End : goal.returns-in-End
-returns-in-End c = let e = c.read_some-step.ensures.1 in (omega (arith, e), prefix_len_of_le _ _ (omega (arith, e)))
+returns-in-End c = let e = c.read_some-step.ensures.room_len_unchanged in (omega (arith, e), prefix_len_of_le _ _ (omega (arith, e)))

@@ -45,4 +45,4 @@ returns c =
     let l = c.loop-i in
     let a = c.args in
     loop_ends (stream_of a.self) l.state l.block a.piece.now l.filled l.i a.self.total c.wrapping_add_u64-total.result
-    l.invariant.3 l.invariant.1 (omega arith) c.wrapping_add_u64-total.ensures
+    l.invariant.3 l.invariant.1 (omega arith) c.wrapping_add_u64-total.ensures.value
