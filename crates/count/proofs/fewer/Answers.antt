@@ -14,16 +14,16 @@ pub returns-then-x-y : goal.returns-then-x-y
 returns-then-x-y c =
     let a = c.args in
     let l = c.loop-i in
-    fewer_found a.t1 a.rounds a.a a.b l.i (omega arith) (omega arith) l.invariant.1 (λ e. omega arith)
+    fewer_found a.sheets a.rounds a.a a.b l.i (omega arith) (omega arith) l.invariant.1 (λ e. omega arith)
 
 pub loop-i-preserved : goal.loop-i-preserved
 loop-i-preserved c =
     let a = c.args in
     let l = c.loop-i in
-    (omega arith, fewer_more a.t1 a.rounds a.a a.b l.i (omega arith) (omega arith) l.invariant.1 (omega arith))
+    (omega arith, fewer_more a.sheets a.rounds a.a a.b l.i (omega arith) (omega arith) l.invariant.1 (omega arith))
 
 pub returns : goal.returns
 returns c =
     let a = c.args in
     let l = c.loop-i in
-    sym (l.invariant.1 ∙ fewer_none (counts_by a.t1) a.rounds a.a a.b l.i (omega arith))
+    sym (l.invariant.1 ∙ fewer_none (counts_by a.sheets) a.rounds a.a a.b l.i (omega arith))

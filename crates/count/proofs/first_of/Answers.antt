@@ -15,9 +15,9 @@ pub returns : goal.returns
 returns c =
     let l = c.loop-i in
     let e : l.i ≡ c.args.outs = omega arith in
-    let w : l.first ≡ with_zeros (take c.args.outs c.args.t1) = l.invariant.1 ∙ rw e in
-    let long : length c.args.t1 ≡ 8 = omega (arith, c.well_formed) in
-    (refl, first_listed c.args.t1 l.first c.args.outs (omega arith) long w, first_list c.args.t1 l.first c.args.outs (omega arith) long w)
+    let w : l.first ≡ with_zeros (take c.args.outs c.args.order) = l.invariant.1 ∙ rw e in
+    let long : length c.args.order ≡ 8 = omega (arith, c.well_formed) in
+    (refl, first_listed c.args.order l.first c.args.outs (omega arith) long w, first_list c.args.order l.first c.args.outs (omega arith) long w)
 
 pub loop-i-preserved : goal.loop-i-preserved
-loop-i-preserved c = let l = c.loop-i in (omega arith, rw l.invariant.1 (first_more c.args.t1 l.i (omega arith) (omega (arith, c.well_formed))))
+loop-i-preserved c = let l = c.loop-i in (omega arith, rw l.invariant.1 (first_more c.args.order l.i (omega arith) (omega (arith, c.well_formed))))

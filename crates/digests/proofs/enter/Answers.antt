@@ -6,23 +6,26 @@ use borrow.Author.Rules.{rules}
 use borrow.Author.Tests.{not-true, not-false}
 use Rattle.rules.specs.Receipts.{digest_at, not_above}
 use Rattle.digests.proofs.Entering.{Entering, entering_start, entering_end, entering_stop, entering_new, entering_old}
+use Rattle.digests.proofs.enter.Goals.{After-not_above, else-numbers-i-eq0, then-numbers-i-eq0}
 use Rattle.digests.proofs.enter.Goals as goal
 
 pub loop-i-init : goal.loop-i-init
 loop-i-init c = entering_start _ _ _ _ _ c.first_not_below-i.ensures c.requires.1
 
-told : (c : goal.After-not_above) →
-    c.not_above.result ≡ not_above (digest_at c.args.digests.now c.loop-i.i) c.args.d.now
+told : (c : goal.After-not_above) → c.not_above.result ≡ not_above (digest_at c.args.digests.now c.loop-i.i) c.args.d.now
 told c = c.not_above.ensures ∙ rw c.digest_at.ensures
 
 pub returns-then-not-not_above : goal.returns-then-not-not_above
-returns-then-not-not_above c = entering_stop _ _ _ _ c.loop-i.invariant (omega arith) c.requires.0 (sym (told c.before) ∙ not-true _ c.if-not-not_above.true)
+returns-then-not-not_above c = entering_stop _ _ _ _ c.loop-i.invariant (omega arith) c.requires.0 (sym (told (goal.at.returns-then-not-not_above c).After-not_above) ∙ c.if-not-not_above.true)
 
 pub loop-i-preserved : goal.loop-i-preserved
 loop-i-preserved c =
     let w = c.loop-i.invariant in
-    let k = sym (told c.before.before.before) ∙ not-false _ c.if-not-not_above.false in
-    ⊎_elim (λ a. rw a.1 (entering_new _ _ _ _ w (omega arith) k (omega (arith, a.0.true)))) (λ a. rw a.1 (entering_old _ _ _ _ w (omega arith) k (λ z. omega (arith, a.0.false)))) c.if-numbers-i-eq0.branch-raw
+    let k = sym (told (goal.at.loop-i-preserved c).After-not_above) ∙ c.if-not-not_above.false in
+    (elim c.if-numbers-i-eq0.branch [
+          then-numbers-i-eq0 a ↦ rw a.numbers-is (entering_new _ _ _ _ w (omega arith) k (omega (arith, a.if-numbers-i-eq0.true)))
+        | else-numbers-i-eq0 a ↦ rw a.numbers-is (entering_old _ _ _ _ w (omega arith) k (λ z. omega (arith, a.if-numbers-i-eq0.false)))
+        ])
 
 pub returns : goal.returns
 returns c = entering_end _ _ _ _ c.loop-i.invariant (omega arith)

@@ -8,24 +8,21 @@ use borrow.Author.Tests.{not-true, not-false}
 use Rattle.numbers.specs.Below.{all_below}
 use Rattle.numbers.proofs.Tests.{all_none, all_more, all_fails, all_end}
 use Rattle.rules.specs.Receipts.{digest_at, not_above}
+use Rattle.digests.proofs.rising.Invariants.{kept}
+use Rattle.digests.proofs.rising.Goals.{After-not_above}
 use Rattle.digests.proofs.rising.Goals as goal
-
--- digest i is not above the next
-abbrev kept : (digests : List ℕ) → ℕ → Bool
-kept digests i = not_above (digest_at digests i) (digest_at digests (i + 1))
 
 pub loop-i-init : goal.loop-i-init
 loop-i-init c = (omega arith, all_none _)
 
-told : (c : goal.After-not_above) →
-    c.not_above.result ≡ kept c.args.digests.now c.loop-i.i
+told : (c : goal.After-not_above) → c.not_above.result ≡ kept c.args.digests.now c.loop-i.i
 told c = c.not_above.ensures ∙ rw (c.digest_at.ensures, c.digest_at-in-loop-i.ensures)
 
 pub returns-then-not-not_above : goal.returns-then-not-not_above
-returns-then-not-not_above c = sym (all_fails _ c.loop-i.i _ (omega arith) (sym (told c.before) ∙ not-true _ c.if-not-not_above.true))
+returns-then-not-not_above c = sym (all_fails _ c.loop-i.i _ (omega arith) (sym (told (goal.at.returns-then-not-not_above c).After-not_above) ∙ c.if-not-not_above.true))
 
 pub loop-i-preserved : goal.loop-i-preserved
-loop-i-preserved c = (omega arith, all_more c.loop-i.i _ c.loop-i.invariant.1 (sym (told c.before) ∙ not-false _ c.if-not-not_above.false))
+loop-i-preserved c = (omega arith, all_more c.loop-i.i _ c.loop-i.invariant.1 (sym (told (goal.at.loop-i-preserved c).After-not_above) ∙ c.if-not-not_above.false))
 
 pub returns : goal.returns
 returns c = sym (all_end _ c.loop-i.i _ (omega arith) (omega arith) c.loop-i.invariant.1)

@@ -10,6 +10,10 @@ use Rattle.numbers.proofs.Tests.{all_none, all_more, all_fails, all_end}
 use Rattle.rules.specs.Receipts.{digest_at, not_above}
 use Rattle.digests.proofs.rising.Given as goal
 
+-- digest i is not above the next
+abbrev pub kept : (digests : List ℕ) → ℕ → Bool
+kept digests i = not_above (digest_at digests i) (digest_at digests (i + 1))
+
 abbrev pub invariant-loop-i : goal.invariant-loop-i
 invariant-loop-i l = (l.i ≤ l.pairs) × (all_below l.i (kept l.digests) ≡ true)
 

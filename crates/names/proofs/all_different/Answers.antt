@@ -11,10 +11,10 @@ use Rattle.names.proofs.Starting.{started_fewer}
 use Rattle.names.proofs.all_different.Goals as goal
 
 pub returns-then-not-new_name : goal.returns-then-not-new_name
-returns-then-not-new_name c = sym (all_fails _ c.loop-i.i _ (omega arith) (sym c.new_name.ensures ∙ not-true _ c.if-not-new_name.true))
+returns-then-not-new_name c = sym (all_fails _ c.loop-i.i _ (omega arith) (sym c.new_name.ensures ∙ c.if-not-new_name.true))
 
 pub loop-i-preserved : goal.loop-i-preserved
-loop-i-preserved c = (omega arith, all_more c.loop-i.i _ c.loop-i.invariant.1 (sym c.new_name.ensures ∙ not-false _ c.if-not-new_name.false))
+loop-i-preserved c = (omega arith, all_more c.loop-i.i _ c.loop-i.invariant.1 (sym c.new_name.ensures ∙ c.if-not-new_name.false))
 
 pub returns : goal.returns
 returns c = sym (all_end _ c.loop-i.i _ (omega arith) (omega arith) c.loop-i.invariant.1)

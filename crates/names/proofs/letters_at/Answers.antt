@@ -13,12 +13,12 @@ loop-i-init c = (omega arith, c.requires, refl)
 
 pub returns-then-not-is_letter : goal.returns-then-not-is_letter
 returns-then-not-is_letter c =
-    let e = letters_end c.args.lent.now c.loop-i.i (omega arith) (sym c.is_letter.ensures ∙ not-true _ c.if-not-is_letter.true) in
+    let e = letters_end c.args.lent.now c.loop-i.i (omega arith) (sym c.is_letter.ensures ∙ c.if-not-is_letter.true) in
     (omega (arith, c.loop-i.invariant.2), omega (arith, c.loop-i.invariant.2))
 
 pub loop-i-preserved : goal.loop-i-preserved
 loop-i-preserved c =
-    let e = letters_more c.args.lent.now c.loop-i.i (omega arith) (sym c.is_letter.ensures ∙ not-false _ c.if-not-is_letter.false) in
+    let e = letters_more c.args.lent.now c.loop-i.i (omega arith) (sym c.is_letter.ensures ∙ c.if-not-is_letter.false) in
     (omega arith, omega arith, omega (arith, c.loop-i.invariant.2))
 
 pub returns : goal.returns

@@ -12,4 +12,4 @@ use Rattle.output.proofs.put_two.Goals as goal
 pub returns : goal.returns
 returns c =
     let a = c.args in
-    front (get_or a.t2 0 0 ∷ get_or a.t2 1 0 ∷ []) a.out.now c.requires ∙ ap (λ (w : List ℕ). written w a.out.now) (two_of a.t2 (omega (arith, c.well_formed)))
+    front (get_or a.two 0 0 ∷ get_or a.two 1 0 ∷ []) a.out.now c.requires ∙ ap (λ (w : List ℕ). written w a.out.now) (two_of a.two (omega (arith, c.well_formed)))

@@ -4,6 +4,7 @@ use Rattle.sha256.specs.Stream.{Stream, empty, feed, feed_all, digest_of, pieces
 use Rattle.sha256.specs.Feed.{stream_of}
 use Rattle.sha256.proofs.Pieces.{pieces}
 use Rattle.sha256.proofs.Cuts.{cut_told, piece_more, piece_last}
+use Rattle.sha256.proofs.digest_in_pieces.Goals.{In-loop-cut}
 use Rattle.sha256.proofs.digest_in_pieces.Goals as goal
 
 -- where the loop goes on there is a cut
@@ -16,7 +17,7 @@ told c =
 
 pub loop-cut-preserved : goal.loop-cut-preserved
 loop-cut-preserved c =
-    let t = told c.before.before.before in
+    let t = told (goal.at.loop-cut-preserved c).In-loop-cut in
     let l = c.loop-cut in
     let a = c.args in (
       t.2,
@@ -45,19 +46,19 @@ pub offset_bounds-cuts-i : goal.offset_bounds-cuts-i
 offset_bounds-cuts-i c = omega (arith, told c)
 
 pub bounds-cuts-i : goal.bounds-cuts-i
-bounds-cuts-i c = (told c.before).0
+bounds-cuts-i c = (told (goal.at.bounds-cuts-i c).In-loop-cut).0
 
 pub slice_bounds-update-count : goal.slice_bounds-update-count
-slice_bounds-update-count c = (told c.before).1
+slice_bounds-update-count c = (told (goal.at.slice_bounds-update-count c).In-loop-cut).1
 
 pub slice_bounds-update-start : goal.slice_bounds-update-start
-slice_bounds-update-start c = omega (arith, told c.before)
+slice_bounds-update-start c = omega (arith, told (goal.at.slice_bounds-update-start c).In-loop-cut)
 
 pub slice_bounds-update-end : goal.slice_bounds-update-end
-slice_bounds-update-end c = omega (arith, told c.before)
+slice_bounds-update-end c = omega (arith, told (goal.at.slice_bounds-update-end c).In-loop-cut)
 
 pub overflow_add-i : goal.overflow_add-i
-overflow_add-i c = omega (arith, told c.before.before.before)
+overflow_add-i c = omega (arith, told (goal.at.overflow_add-i c).In-loop-cut)
 
 pub loop-cut-smaller : goal.loop-cut-smaller
-loop-cut-smaller c = omega (arith, told c.before.before.before)
+loop-cut-smaller c = omega (arith, told (goal.at.loop-cut-smaller c).In-loop-cut)

@@ -10,11 +10,11 @@ loop-i-init c = (search rules, refl, refl)
 pub loop-i-preserved : goal.loop-i-preserved
 loop-i-preserved c =
     let l = c.loop-i in
-    (omega arith, simp length-set l.invariant.1, bytes_more c.args.t1 l.out l.i (omega (arith, c.well_formed)) (omega arith) l.invariant.2)
+    (omega arith, simp length-set l.invariant.1, bytes_more c.args.state l.out l.i (omega (arith, c.well_formed)) (omega arith) l.invariant.2)
 
 pub returns : goal.returns
 returns c =
     let l = c.loop-i in
-    let s = c.args.t1 in
+    let s = c.args.state in
     let e : l.i ≡ 8 = omega arith in
     sym (take_all 32 l.out (omega arith)) ∙ rw e at l.invariant.2 ∙ ap bytes (take_all 8 s (omega (arith, c.well_formed)))

@@ -18,17 +18,12 @@ returns-then-best-eq0 c =
     let a = c.args in
     λ n l r. rw (gone_is n a.self, sym c.is_out.ensures ∙ c.if-is_out.false, eq-eqb _ _ c.if-best-eq0.true)
 
--- it is still in, one was picked before it, and the test says which of the two is picked now
-tested : (c : goal.After-replaces) (b : Bool) → c.replaces.result ≡ b → (n : ℕ) →
-    let a = c.args in
-    a.i < n → a.best ≤ n → cond b (a.i + 1) a.best ≡ picked a.least (standing_of n a.self) (counts_on n a.sheet) a.best a.i
-tested c b e n l r =
-    let a = c.args in
-    picked_on n a.self a.least (counts_on n a.sheet) a.best a.i b (sym c.is_out.ensures ∙ c.if-is_out.false)
-    c.if-best-eq0.false (sym (c.replaces.ensures n r (omega arith)) ∙ e)
-
 pub returns-then-replaces : goal.returns-then-replaces
-returns-then-replaces c = tested c.before true c.if-replaces.true
+returns-then-replaces c =
+    let tested : ((b : Bool) → c.replaces.result ≡ b → (n : ℕ) → let a = c.args in a.i < n → a.best ≤ n → cond b (a.i + 1) a.best ≡ picked a.least (standing_of n a.self) (counts_on n a.sheet) a.best a.i) = λ b e n l r. let a = c.args in picked_on n a.self a.least (counts_on n a.sheet) a.best a.i b (sym c.is_out.ensures ∙ c.if-is_out.false) c.if-best-eq0.false (sym (c.replaces.ensures n r (omega arith)) ∙ e) in
+    tested true c.if-replaces.true
 
 pub returns : goal.returns
-returns c = tested c.before false c.if-replaces.false
+returns c =
+    let tested : ((b : Bool) → c.replaces.result ≡ b → (n : ℕ) → let a = c.args in a.i < n → a.best ≤ n → cond b (a.i + 1) a.best ≡ picked a.least (standing_of n a.self) (counts_on n a.sheet) a.best a.i) = λ b e n l r. let a = c.args in picked_on n a.self a.least (counts_on n a.sheet) a.best a.i b (sym c.is_out.ensures ∙ c.if-is_out.false) c.if-best-eq0.false (sym (c.replaces.ensures n r (omega arith)) ∙ e) in
+    tested false c.if-replaces.false

@@ -2,6 +2,7 @@ use Rattle.std.proofs.Common.{◌≡◌, ◌+◌, ◌-◌, ◌%◌, ◌≤◌, l
 use Rattle.sha256.specs.Stream.{feed}
 use Rattle.sha256.specs.Feed.{stream_of}
 use Rattle.sha256.proofs.Stream.{held, byte_waits, byte_fills, block_hashed, loop_starts, loop_ends}
+use Rattle.sha256.proofs.Hasher.update.Goals.{else-filled-eq64, then-filled-eq64}
 use Rattle.sha256.proofs.Hasher.update.Goals as goal
 
 pub loop-i-init : goal.loop-i-init
@@ -31,12 +32,15 @@ loop-i-preserved c =
     let a = c.args in
     let p = a.piece.now in (
       omega arith,
-      ⊎_elim (λ w. omega (arith, l.invariant.1)) (λ w. omega (arith, l.invariant.1)) c.if-filled-eq64.branch-raw,
+      (elim c.if-filled-eq64.branch [
+          then-filled-eq64 w ↦ omega (arith, l.invariant.1)
+        | else-filled-eq64 w ↦ omega (arith, l.invariant.1)
+        ]),
       simp length-set l.invariant.2,
-      ⊎_elim
-          (λ w. byte_fills (stream_of a.self) l.state l.block p l.filled l.i a.self.total l.invariant.2 l.invariant.3 _ _ (w.3 ∙ w.2.ensures) w.4 (omega arith) (omega arith))
-          (λ w. byte_waits (stream_of a.self) l.state l.block p l.filled l.i a.self.total l.invariant.2 l.invariant.3 _ _ w.1 w.2 (omega (arith, l.invariant.1)) (omega arith))
-          c.if-filled-eq64.branch-raw,
+      (elim c.if-filled-eq64.branch [
+          then-filled-eq64 w ↦ byte_fills (stream_of a.self) l.state l.block p l.filled l.i a.self.total l.invariant.2 l.invariant.3 _ _ (w.state-is ∙ w.compress-next-then-filled-eq64.ensures) w.filled-is (omega arith) (omega arith)
+        | else-filled-eq64 w ↦ byte_waits (stream_of a.self) l.state l.block p l.filled l.i a.self.total l.invariant.2 l.invariant.3 _ _ w.state-is w.filled-is (omega (arith, l.invariant.1)) (omega arith)
+        ]),
     )
 
 pub returns : goal.returns
