@@ -14,4 +14,4 @@ returns c =
     let a = c.args in
     c.update.ensures
     ∙ ap (λ (mark : List ℕ). feed (stream_of a.labelled) (context_bytes (record { mark = mark; number = a.number; round = a.round; place = a.place })))
-    (two_of a.t2 (omega (arith, c.well_formed)))
+    (two_of a.mark (omega (arith, c.well_formed)))

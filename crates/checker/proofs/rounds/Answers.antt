@@ -18,14 +18,15 @@ use Rattle.round.specs.Outcomes.{RoundComes}
 use Rattle.round.proofs.Beginnings.{begins_first, begins_next}
 use Rattle.checker.specs.Counts.{goes_on, stops_from}
 use Rattle.checker.proofs.Onward.{one_leaves, sheets_more, verdict_of_lem, ends_with, ends, goes_on_lem, refused_here, open_here, stops_here, stops_later}
+use Rattle.checker.proofs.rounds.Goals.{After-read_round-read, In-Closed, In-Open}
 use Rattle.checker.proofs.rounds.Goals as goal
 
 -- what the round read comes to
-abbrev Comes : tie.After-read-round invariant_loop decreases_loop → RoundOutcome → Type 0
+abbrev Comes : (c : goal.After-read_round-read) → RoundOutcome → Type 0
 Comes c o =
-    let a = (entry c).args in
-    let l = c.before.loop in
-    RoundComes a.board.now a.h l.count l.round.m l.round.a o c.read_round.result.count
+    let a = c.args in
+    let l = c.loop-why in
+    RoundComes a.board.now a.h l.count l.round.m l.round.a o c.read_round-read.result.count
 
 -- the verdict on the whole board, where the round has a verdict of its own
 ended : (c : goal.After-read_round-read) (W : Verdict) →
@@ -41,8 +42,7 @@ ended c W =
     ends a.board.now H (check_from sha256 a.board.now H a.h.n start 0 0) (standing_of a.h.n l.count) l.round.m l.round.a (omega (arith, l.invariant.0.early)) l.invariant.3 W
 
 -- the standing count where the check stops, where this round does not go on
-stopped : (c : goal.After-read_round-read) →
-    let a = c.args in
+stopped : (c : goal.After-read_round-read) → let a = c.args in
     let l = c.loop-why in
     let H = head_of a.board.now a.h in
     goes_on sha256 a.board.now H (standing_of a.h.n l.count) l.round.m l.round.a ≡ false →
@@ -69,26 +69,27 @@ pub returns-in-Refused : goal.returns-in-Refused
 unfolding RoundComes
 returns-in-Refused c =
     let t = rw c.in-Refused.is at c.read_round-read.ensures in
-    let x = ended c.before.before.before.before.before _ t.0 in
+    let x = ended (goal.at.returns-in-Refused c).After-read_round-read _ t.0 in
     let l = c.loop-why in
     let e = c.refused.ensures in
-    record { verdict = rw e.0 (sym x); counted = rw (x, e.1, e.2, t.1) (refl, l.invariant.2, sym (stopped c.before.before.before.before.before (refused_here _ _ _ _ _ _ _ t.0))) }
+    record { verdict = rw e.0 (sym x); counted = rw (x, e.1, e.2, t.1) (refl, l.invariant.2, sym (stopped (goal.at.returns-in-Refused c).After-read_round-read (refused_here _ _ _ _ _ _ _ t.0))) }
 
 -- the round closes the board
-closes : (c : goal.In-Closed) → Comes c (Closed c.in-Closed.winner)
+closes : (c : goal.In-Closed) → let Comes : (RoundOutcome → Type 0) = λ o. let a = c.args in let l = c.loop-why in RoundComes a.board.now a.h l.count l.round.m l.round.a o c.read_round-read.result.count in
+    Comes (Closed c.in-Closed.winner)
 closes c = rw c.in-Closed.is at c.read_round-read.ensures
 
 pub accepted-requires : goal.accepted-requires
 unfolding RoundComes
-accepted-requires c = (closes c.before).2
+accepted-requires c = (closes (goal.at.accepted-requires c).In-Closed).2
 
 pub returns-in-Closed : goal.returns-in-Closed
 unfolding RoundComes
 returns-in-Closed c =
     let a = c.args in
     let l = c.loop-why in
-    let t = closes c.before.before in
-    let x = ended c.before.before.before.before.before _ t.0 in
+    let t = closes (goal.at.returns-in-Closed c).In-Closed in
+    let x = ended (goal.at.returns-in-Closed c).After-read_round-read _ t.0 in
     let g = same_gone a.h.n _ l.count t.1 in
     let w = c.accepted.ensures in
     record {
@@ -101,7 +102,8 @@ returns-in-Closed c =
     }
 
 -- the round stays open
-opens : (c : goal.In-Open) → Comes c (Open c.in-Open.out c.in-Open.next c.in-Open.number)
+opens : (c : goal.In-Open) → let Comes : (RoundOutcome → Type 0) = λ o. let a = c.args in let l = c.loop-why in RoundComes a.board.now a.h l.count l.round.m l.round.a o c.read_round-read.result.count in
+    Comes (Open c.in-Open.out c.in-Open.next c.in-Open.number)
 opens c = rw c.in-Open.is at c.read_round-read.ensures
 
 pub loop-why-preserved : goal.loop-why-preserved
@@ -109,7 +111,7 @@ unfolding RoundComes
 loop-why-preserved c =
     let a = c.args in
     let l = c.loop-why in
-    let o = opens c.before.before in
+    let o = opens (goal.at.loop-why-preserved c).In-Open in
     let H = head_of a.board.now a.h in
     rw c.next-round.ensures (
       begins_next a.board.now a.h l.place l.round l.invariant.0 (standing_of a.h.n l.count) _ _ (sheets_many a.h.n l.count l.invariant.2 ∙ l.invariant.1)

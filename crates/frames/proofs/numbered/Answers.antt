@@ -4,6 +4,7 @@ use borrow.Author.Rules.{rules}
 use Rattle.frames.specs.declared.Fault.TheVariants.{Sound}
 use Rattle.frames.specs.Framed.{Begun}
 use Rattle.frames.proofs.Framing.{frame_begun, frame_number, frame_sound}
+use Rattle.frames.proofs.numbered.Goals.{In_default}
 use Rattle.frames.proofs.numbered.Goals as goal
 
 begun : (c : goal.In_default) → let a = c.args in Begun a.board.now a.at a.size a.mark Sound
@@ -17,7 +18,7 @@ unfolding Begun
 number-requires c = omega (arith, (begun c).0)
 
 pub returns-then-number-due : goal.returns-then-number-due
-returns-then-number-due c = frame_number _ _ _ _ _ _ (begun c.before.before) (λ e. c.if-number-due.true (c.number.ensures ∙ e))
+returns-then-number-due c = frame_number _ _ _ _ _ _ (begun (goal.at.returns-then-number-due c).In_default) (λ e. c.if-number-due.true (c.number.ensures ∙ e))
 
 pub returns : goal.returns
-returns c = frame_sound _ _ _ _ _ _ (begun c.before.before) (sym c.number.ensures ∙ c.if-number-due.false)
+returns c = frame_sound _ _ _ _ _ _ (begun (goal.at.returns c).In_default) (sym c.number.ensures ∙ c.if-number-due.false)

@@ -5,9 +5,10 @@ use Rattle.jobs.specs.Job.{Job}
 use Rattle.gooseoften.specs.Answers.{job}
 use Rattle.gooseoften.proofs.Codes.{which_placed}
 use Rattle.gooseoften.proofs.Calls.{replied}
+use Rattle.gooseoften.proofs.gooseoften_write.Goals.{Start}
 use Rattle.gooseoften.proofs.gooseoften_write.Goals as goal
 
-abbrev job_at : tie.Start → Job
+abbrev job_at : (s : goal.Start) → Job
 job_at s = let f = s.args in job f.n f.k f.p f.q f.g0 f.counter f.label.now f.rankings.now f.kinds.now f.draws.now
 
 pub put_reply-requires : goal.put_reply-requires
@@ -15,7 +16,7 @@ put_reply-requires c =
     let w = c.write-written in
     record {
       in_bounds = omega (arith, c.well_formed);
-      reply_bound = which_placed (job_at c) (length c.args.out.now) w.result.reply w.result.order w.ensures.0;
+      reply_bound = which_placed (job_at (goal.at.put_reply-requires c).Start) (length c.args.out.now) w.result.reply w.result.order w.ensures.0;
     }
 
 pub returns : goal.returns
@@ -23,7 +24,7 @@ returns c =
     let w = c.write-written in
     let e = c.put_reply.ensures in
     let r =
-    replied (job_at c) (length c.args.out.now) c.args.answer.now _ w.result.reply w.result.order _ w.ensures.0 w.ensures.1.0
+    replied (job_at (goal.at.returns c).Start) (length c.args.out.now) c.args.answer.now _ w.result.reply w.result.order _ w.ensures.0 w.ensures.1.0
     e.0 e.1
     in
     record {

@@ -12,24 +12,23 @@ use Rattle.rules.proofs.Limits.{sizes_bounds}
 use Rattle.parameters.proofs.Rules.{orders_positive}
 use Rattle.header.specs.Heads.{HeaderReads}
 use Rattle.header.proofs.HeaderTable.{Shown, too_short, wrong_mark, wrong_sizes, past_limits_lem, wrong_orders, wrong_generators, sound_header, header_is}
+use Rattle.header.proofs.read_header.Goals.{After-generators_good, After-shown-group, Else-not-few, Else-not-ordered, Else-not-sizes_good}
 use Rattle.header.proofs.read_header.Goals as goal
 
 -- what is read, and what the tests passed up to 3 say
-read : (c : goal.After-shown-group) →
-    let a = c.args in Shown a.model a.board.now c.byte-n.result c.number-k.result
+read : (c : goal.After-shown-group) → let a = c.args in Shown a.model a.board.now c.byte-n.result c.number-k.result
     (parameters_of c.shown-group.result)
 read c =
     record {
       long = omega arith;
-      mark = sym c.has_mark.ensures ∙ not-false _ c.if-not-has_mark.false;
+      mark = sym c.has_mark.ensures ∙ c.if-not-has_mark.false;
       n_is = c.byte-n.ensures;
       k_is = c.number-k.ensures;
       group_is = c.shown-group.ensures;
     }
 
-sized : (c : goal.Else-not-sizes_good) →
-    sizes c.args.model c.byte-n.result c.number-k.result ≡ true
-sized c = sym c.sizes_good.ensures ∙ not-false _ c.if-not-sizes_good.false
+sized : (c : goal.Else-not-sizes_good) → sizes c.args.model c.byte-n.result c.number-k.result ≡ true
+sized c = sym c.sizes_good.ensures ∙ c.if-not-sizes_good.false
 
 pub returns-then-board-lt-HEADER_LENGTH : goal.returns-then-board-lt-HEADER_LENGTH
 unfolding HeaderReads
@@ -37,57 +36,54 @@ returns-then-board-lt-HEADER_LENGTH c = too_short _ _ (omega arith)
 
 pub returns-then-not-has_mark : goal.returns-then-not-has_mark
 unfolding HeaderReads
-returns-then-not-has_mark c = wrong_mark _ _ (omega arith) (sym c.has_mark.ensures ∙ not-true _ c.if-not-has_mark.true)
+returns-then-not-has_mark c = wrong_mark _ _ (omega arith) (sym c.has_mark.ensures ∙ c.if-not-has_mark.true)
 
 pub returns-then-not-sizes_good : goal.returns-then-not-sizes_good
 unfolding HeaderReads
-returns-then-not-sizes_good c = wrong_sizes (read c.before.before) (sym c.sizes_good.ensures ∙ not-true _ c.if-not-sizes_good.true)
+returns-then-not-sizes_good c = wrong_sizes (read (goal.at.returns-then-not-sizes_good c).After-shown-group) (sym c.sizes_good.ensures ∙ c.if-not-sizes_good.true)
 
 pub returns-then-not-few : goal.returns-then-not-few
 unfolding HeaderReads
 returns-then-not-few c =
-    past_limits_lem (read c.before.before.before.before.before) (sized c.before.before.before)
-    (sym c.limits_good-few.ensures ∙ not-true _ c.if-not-few.true)
+    past_limits_lem (read (goal.at.returns-then-not-few c).After-shown-group) (sized (goal.at.returns-then-not-few c).Else-not-sizes_good)
+    (sym c.limits_good-few.ensures ∙ c.if-not-few.true)
 
 -- behind 23, and behind 4
-few : (c : goal.Else-not-few) →
-    limits c.args.model c.byte-n.result c.number-k.result ≡ true
-few c = sym c.limits_good-few.ensures ∙ not-false _ c.if-not-few.false
+few : (c : goal.Else-not-few) → limits c.args.model c.byte-n.result c.number-k.result ≡ true
+few c = sym c.limits_good-few.ensures ∙ c.if-not-few.false
 
-ordered : (c : goal.Else-not-ordered) →
-    let g = c.shown-group.result in orders c.byte-n.result c.number-k.result g.p g.q ≡ true
-ordered c = sym c.orders_good-ordered.ensures ∙ not-false _ c.if-not-ordered.false
+ordered : (c : goal.Else-not-ordered) → let g = c.shown-group.result in orders c.byte-n.result c.number-k.result g.p g.q ≡ true
+ordered c = sym c.orders_good-ordered.ensures ∙ c.if-not-ordered.false
 
-generated : (c : goal.After-generators_good) →
-    let s = c.args.board.now in c.generators_good.result ≡ generators sha256 (part s 22 32) (counter_field s) (parameters_of c.shown-group.result)
+generated : (c : goal.After-generators_good) → let s = c.args.board.now in c.generators_good.result ≡ generators sha256 (part s 22 32) (counter_field s) (parameters_of c.shown-group.result)
 generated c = c.generators_good.ensures
 
 pub returns-then-not-ordered : goal.returns-then-not-ordered
 unfolding HeaderReads
 returns-then-not-ordered c =
-    wrong_orders (read c.before.before.before.before.before.before) (sized c.before.before.before.before) (few c.before)
-    (sym c.orders_good-ordered.ensures ∙ not-true _ c.if-not-ordered.true)
+    wrong_orders (read (goal.at.returns-then-not-ordered c).After-shown-group) (sized (goal.at.returns-then-not-ordered c).Else-not-sizes_good) (few (goal.at.returns-then-not-ordered c).Else-not-few)
+    (sym c.orders_good-ordered.ensures ∙ c.if-not-ordered.true)
 
 pub returns-then-not-generators_good : goal.returns-then-not-generators_good
 unfolding HeaderReads
 returns-then-not-generators_good c =
-    wrong_generators (read c.before.before.before.before.before.before.before.before.before.before) (sized c.before.before.before.before.before.before.before.before) (few c.before.before.before.before.before) (ordered c.before.before.before.before)
-    (sym (generated c.before) ∙ not-true _ c.if-not-generators_good.true)
+    wrong_generators (read (goal.at.returns-then-not-generators_good c).After-shown-group) (sized (goal.at.returns-then-not-generators_good c).Else-not-sizes_good) (few (goal.at.returns-then-not-generators_good c).Else-not-few) (ordered (goal.at.returns-then-not-generators_good c).Else-not-ordered)
+    (sym (generated (goal.at.returns-then-not-generators_good c).After-generators_good) ∙ c.if-not-generators_good.true)
 
 pub returns : goal.returns
 unfolding HeaderReads
 returns c =
-    let shown = read c.before.before.before.before.before.before.before.before.before.before.before in
-    let size = sized c.before.before.before.before.before.before.before.before.before in
+    let shown = read (goal.at.returns c).After-shown-group in
+    let size = sized (goal.at.returns c).Else-not-sizes_good in
     let bounds = sizes_bounds c.args.model c.byte-n.result c.number-k.result size in (
-      sound_header shown size (few c.before.before.before.before.before.before) (ordered c.before.before.before.before.before)
-          (sym (generated c.before.before) ∙ not-false _ c.if-not-generators_good.false),
+      sound_header shown size (few (goal.at.returns c).Else-not-few) (ordered (goal.at.returns c).Else-not-ordered)
+          (sym (generated (goal.at.returns c).After-generators_good) ∙ c.if-not-generators_good.false),
       rw c.new.ensures.0 (header_is shown),
       record { ready = c.new.ensures.1; low = bounds.0; high = bounds.1; some = bounds.2; few = bounds.3; long = shown.long },
     )
 
 pub generators_good-requires : goal.generators_good-requires
-generators_good-requires c = orders_positive _ _ _ _ (ordered c.before.before)
+generators_good-requires c = orders_positive _ _ _ _ (ordered (goal.at.generators_good-requires c).Else-not-ordered)
 
 pub new-requires : goal.new-requires
-new-requires c = orders_positive _ _ _ _ (ordered c.before.before.before.before)
+new-requires c = orders_positive _ _ _ _ (ordered (goal.at.new-requires c).Else-not-ordered)

@@ -17,7 +17,7 @@ returns-then-not-lists c =
     let l = c.loop-i in
     let f = c.args in
     let r = part f.s.now f.at f.n in
-    sym (all_fails f.n l.i (λ j. member (suc j) r) (omega arith) (rw (← add-one) (sym c.lists.ensures ∙ not-true _ c.if-not-lists.true)))
+    sym (all_fails f.n l.i (λ j. member (suc j) r) (omega arith) (rw (← add-one) (sym c.lists.ensures ∙ c.if-not-lists.true)))
     ∙ ranking_is f.s.now f.at f.n c.requires
 
 pub loop-i-preserved : goal.loop-i-preserved
@@ -25,7 +25,7 @@ loop-i-preserved c =
     let l = c.loop-i in
     let f = c.args in
     let r = part f.s.now f.at f.n in
-    (omega arith, all_more l.i (λ j. member (suc j) r) l.invariant.1 (rw (← add-one) (sym c.lists.ensures ∙ not-false _ c.if-not-lists.false)))
+    (omega arith, all_more l.i (λ j. member (suc j) r) l.invariant.1 (rw (← add-one) (sym c.lists.ensures ∙ c.if-not-lists.false)))
 
 pub returns : goal.returns
 returns c =

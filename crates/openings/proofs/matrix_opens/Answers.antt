@@ -11,6 +11,7 @@ use Rattle.numbers.proofs.Tests.{all_none, all_more, all_fails, all_end}
 use Rattle.group.specs.Elements.{parameters_of}
 use Rattle.rules.proofs.Sizes.{cells}
 use Rattle.openings.specs.Shown.{opens_at}
+use Rattle.openings.proofs.matrix_opens.Goals.{After-pair_opens, After-shared_slice_known-1, In-loop-t}
 use Rattle.openings.proofs.matrix_opens.Goals as goal
 
 -- a pair's row and column, and the places on the board
@@ -23,8 +24,7 @@ long : (c : goal.In-loop-t) → length c.args.s.now < 2 ^ 64
 long c = omega (arith, c.well_formed)
 
 -- what a pair's test says
-opened : (c : goal.After-pair_opens) →
-    let a = c.args in
+opened : (c : goal.After-pair_opens) → let a = c.args in
     c.pair_opens.result ≡ opens_at a.s.now (parameters_of a.g) a.n a.pairs a.shown c.loop-t.t
 unfolding opens_at
 opened c =
@@ -37,10 +37,10 @@ opened c =
     c.pair_opens.ensures
 
 pub returns-then-not-pair_opens : goal.returns-then-not-pair_opens
-returns-then-not-pair_opens c = sym (all_fails _ c.loop-t.t _ (omega arith) (sym (opened c.before) ∙ not-true _ c.if-not-pair_opens.true))
+returns-then-not-pair_opens c = sym (all_fails _ c.loop-t.t _ (omega arith) (sym (opened (goal.at.returns-then-not-pair_opens c).After-pair_opens) ∙ c.if-not-pair_opens.true))
 
 pub loop-t-preserved : goal.loop-t-preserved
-loop-t-preserved c = (omega arith, all_more _ _ c.loop-t.invariant.1 (sym (opened c.before) ∙ not-false _ c.if-not-pair_opens.false))
+loop-t-preserved c = (omega arith, all_more _ _ c.loop-t.invariant.1 (sym (opened (goal.at.loop-t-preserved c).After-pair_opens) ∙ c.if-not-pair_opens.false))
 
 pub returns : goal.returns
 returns c = sym (all_end _ c.loop-t.t _ c.loop-t.invariant.0 (omega arith) c.loop-t.invariant.1)
@@ -67,22 +67,22 @@ pub overflow_add-place : goal.overflow_add-place
 overflow_add-place c = omega (arith, long c)
 
 pub overflow_add-place-in-loop-t : goal.overflow_add-place-in-loop-t
-overflow_add-place-in-loop-t c = omega (arith, long c.before)
+overflow_add-place-in-loop-t c = omega (arith, long (goal.at.overflow_add-place-in-loop-t c).In-loop-t)
 
 pub overflow_mul-t : goal.overflow_mul-t
-overflow_mul-t c = omega (arith, long c.before.before)
+overflow_mul-t c = omega (arith, long (goal.at.overflow_mul-t c).In-loop-t)
 
 pub overflow_add-shown : goal.overflow_add-shown
-overflow_add-shown c = omega (arith, long c.before.before)
+overflow_add-shown c = omega (arith, long (goal.at.overflow_add-shown c).In-loop-t)
 
 pub overflow_add-ranking-in-loop-t : goal.overflow_add-ranking-in-loop-t
-overflow_add-ranking-in-loop-t c = omega (arith, long c.before.before.before, row c.before.before.before)
+overflow_add-ranking-in-loop-t c = omega (arith, long (goal.at.overflow_add-ranking-in-loop-t c).In-loop-t, row (goal.at.overflow_add-ranking-in-loop-t c).In-loop-t)
 
 pub bounds-s-ranking : goal.bounds-s-ranking
-bounds-s-ranking c = omega (arith, row c.before.before.before.before)
+bounds-s-ranking c = omega (arith, row (goal.at.bounds-s-ranking c).In-loop-t)
 
 pub value_of-requires : goal.value_of-requires
-value_of-requires c = omega (arith, row c.before.before.before.before)
+value_of-requires c = omega (arith, row (goal.at.value_of-requires c).In-loop-t)
 
 pub overflow_step-t : goal.overflow_step-t
-overflow_step-t c = omega (arith, row c.before.before.before.before.before.before.before)
+overflow_step-t c = omega (arith, row (goal.at.overflow_step-t c).In-loop-t)

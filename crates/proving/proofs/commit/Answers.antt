@@ -13,6 +13,7 @@ use Rattle.proving.specs.Plans.{branch_said, draft_commitments, draft_branch}
 use Rattle.statements.proofs.Branches.{fed_below_more}
 use Rattle.proving.proofs.Joining.{held_more, in_proof}
 use borrow.Author.Rules.{rules}
+use Rattle.proving.proofs.commit.Goals.{In-loop-l}
 use Rattle.proving.proofs.commit.Goals as goal
 
 pub loop-l-init : goal.loop-l-init
@@ -27,7 +28,7 @@ pub commit_branch-next-requires : goal.commit_branch-next-requires
 commit_branch-next-requires c =
     record {
       ready = c.requires.ready;
-      l_lt_branches = (omega arith, c.branch_draws-at.ensures, simp (length-take, length-drop) (omega (arith, within c.before.before, c.loop-l.invariant.1)));
+      l_lt_branches = (omega arith, c.branch_draws-at.ensures, simp (length-take, length-drop) (omega (arith, within (goal.at.commit_branch-next-requires c).In-loop-l, c.loop-l.invariant.1)));
     }
 
 pub loop-l-preserved : goal.loop-l-preserved
@@ -62,13 +63,13 @@ pub branch_draws-at-requires : goal.branch_draws-at-requires
 branch_draws-at-requires c = let d = c.requires.ready.1.drawn in (omega (arith, d.few), d.small, d.near)
 
 pub slice_bounds-commit_branch-count : goal.slice_bounds-commit_branch-count
-slice_bounds-commit_branch-count c = omega (arith, within c.before, c.loop-l.invariant.1)
+slice_bounds-commit_branch-count c = omega (arith, within (goal.at.slice_bounds-commit_branch-count c).In-loop-l, c.loop-l.invariant.1)
 
 pub slice_bounds-commit_branch-start : goal.slice_bounds-commit_branch-start
-slice_bounds-commit_branch-start c = omega (arith, within c.before, c.loop-l.invariant.1)
+slice_bounds-commit_branch-start c = omega (arith, within (goal.at.slice_bounds-commit_branch-start c).In-loop-l, c.loop-l.invariant.1)
 
 pub slice_bounds-commit_branch-end : goal.slice_bounds-commit_branch-end
-slice_bounds-commit_branch-end c = omega (arith, within c.before, c.loop-l.invariant.1)
+slice_bounds-commit_branch-end c = omega (arith, within (goal.at.slice_bounds-commit_branch-end c).In-loop-l, c.loop-l.invariant.1)
 
 pub overflow_step-l : goal.overflow_step-l
 overflow_step-l c = omega (arith, c.requires.ready.1.drawn.few, c.loop-l-test.true)

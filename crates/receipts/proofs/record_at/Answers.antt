@@ -6,6 +6,7 @@ use Rattle.rules.specs.Records.{kind_at, ballot_length}
 use Rattle.frames.specs.declared.Fault.TheVariants.{Sound}
 use Rattle.frames.specs.Framed.{Framed, BallotFramed}
 use Rattle.receipts.specs.Steps.{HashedBy}
+use Rattle.receipts.proofs.record_at.Goals.{After-ballot_length-size, In_default}
 use Rattle.receipts.proofs.record_at.Goals as goal
 
 pub returns-in-Refused : goal.returns-in-Refused
@@ -21,8 +22,8 @@ sized c = let a = c.args in c.ballot_length-size.ensures.0 ∙ ap (λ (x : ℕ).
 
 pub digest_of-digest-requires : goal.digest_of-digest-requires
 unfolding Framed BallotFramed
-digest_of-digest-requires c = omega (arith, sized c, (framed c.before.before).0.0)
+digest_of-digest-requires c = omega (arith, sized c, (framed (goal.at.digest_of-digest-requires c).In_default).0.0)
 
 pub returns : goal.returns
 unfolding HashedBy
-returns c = let e = sized c.before in record { framed = framed c.before.before.before; hashed = (rw e, c.digest_of-digest.ensures ∙ rw e) }
+returns c = let e = sized (goal.at.returns c).After-ballot_length-size in record { framed = framed (goal.at.returns c).In_default; hashed = (rw e, c.digest_of-digest.ensures ∙ rw e) }

@@ -6,11 +6,11 @@ use borrow.Author.Rules.{rules}
 use Rattle.rules.specs.Proofs.{proof_fields}
 use Rattle.statements.specs.Walks.{pairs_fields}
 use Rattle.statements.proofs.Reading.{walk_to, walk_refused}
+use Rattle.records.proofs.fields_good.Goals.{In-To}
 use Rattle.records.proofs.fields_good.Goals as goal
 
 -- the pairs, walked
-first : (c : goal.In-To) →
-    let a = c.args in
+first : (c : goal.In-To) → let a = c.args in
     (pairs_fields a.board.now a.at a.pairs a.p a.q ≡ true) × (c.in-To.proofs ≡ a.at + 8 * a.pairs)
 first c = walk_to _ _ _ (sym c.pairs_fields.ensures ∙ c.in-To.is)
 
@@ -22,7 +22,7 @@ returns-in_default c =
 pub returns-in_default-proof_fields : goal.returns-in_default-proof_fields
 returns-in_default-proof_fields c =
     let a = c.args in
-    let w = first c.before.before.before in
+    let w = first (goal.at.returns-in_default-proof_fields c).In-To in
     let x = c.in-To.proofs in
     rw (
       w.0,
@@ -33,7 +33,7 @@ returns-in_default-proof_fields c =
 pub returns : goal.returns
 returns c =
     let a = c.args in
-    let w = first c.before.before.before in
+    let w = first (goal.at.returns c).In-To in
     let x = c.in-To.proofs in
     rw (
       w.0,

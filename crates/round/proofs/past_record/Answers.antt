@@ -7,6 +7,7 @@ use Rattle.rules.specs.Check.{kind}
 use Rattle.header.specs.Heads.{head_of}
 use Rattle.records.specs.Passes.{Passes}
 use Rattle.round.proofs.Walked.{number_small, kind_read, few_ballots, earlier_small, row_fits, walked_more}
+use Rattle.round.proofs.past_record.Goals.{After-kind-kind}
 use Rattle.round.proofs.past_record.Goals as goal
 
 -- the kind that was read is the ballot's
@@ -25,7 +26,7 @@ tally_after-tally-requires c =
         v.tallied.y_long,
         few_ballots c.args.board.now c.args.h c.requires.header_known.0 c.args.round c.args.at c.args.walk v c.requires.header_known.2,
       );
-      n_in_bounds = λ z. row_fits c.args.board.now c.args.h c.requires.header_known.0 c.args.round c.args.at c.args.walk v c.requires.header_known.3 (eq-eqb _ 0 (sym (kind_of_lem c.before) ∙ z)) c.requires.record_passes.2;
+      n_in_bounds = λ z. row_fits c.args.board.now c.args.h c.requires.header_known.0 c.args.round c.args.at c.args.walk v c.requires.header_known.3 (eq-eqb _ 0 (sym (kind_of_lem (goal.at.tally_after-tally-requires c).After-kind-kind) ∙ z)) c.requires.record_passes.2;
     }
 
 small : (c : goal.After-kind-kind) → c.args.walk.number + 2 < 2 ^ 64
@@ -33,7 +34,7 @@ small c = number_small c.args.board.now c.args.h c.requires.header_known.0 c.arg
 
 pub returns : goal.returns
 returns c =
-    let same = kind_of_lem c.before.before.before.before.before.before.before.before.before in (
+    let same = kind_of_lem (goal.at.returns c).After-kind-kind in (
       walked_more c.args.board.now c.args.h c.requires.header_known.0 c.args.round c.args.at c.args.walk c.requires.header_known.1 _ c.requires.record_passes c.requires.header_known.2 _ _ _ _
           c.earlier_length.ensures.1 (λ d z. rw (← same) (c.earlier_length.ensures.2 d z)) (rw (← same) c.records_of.ensures.0) (rw (← same) c.ballot_length.ensures.0)
           (rw (← same) c.tally_after-tally.ensures),
@@ -53,4 +54,4 @@ pub overflow_add-result : goal.overflow_add-result
 overflow_add-result c = omega (arith, c.requires.header_known.2, c.requires.header_known.0.few)
 
 pub overflow_add-result-2 : goal.overflow_add-result-2
-overflow_add-result-2 c = omega (arith, small c.before.before.before.before.before, c.records_of.ensures.1)
+overflow_add-result-2 c = omega (arith, small (goal.at.overflow_add-result-2 c).After-kind-kind, c.records_of.ensures.1)

@@ -13,6 +13,7 @@ use Rattle.rules.specs.Count.{table}
 use Rattle.sheets.specs.Sheets.{Counted, exponent_of, count_good}
 use Rattle.sheets.proofs.SheetTable.{pass, count_large, exponent_large, table_more}
 use Rattle.sheets.proofs.SheetSteps.{exponents_more}
+use Rattle.sheets.proofs.sheet_fields.Goals.{In-Value, In-Value-exponent}
 use Rattle.sheets.proofs.sheet_fields.Goals as goal
 
 pub loop-i-init : goal.loop-i-init
@@ -20,8 +21,7 @@ unfolding table
 loop-i-init c = (omega arith, omega arith, refl, refl, all_none _, refl, λ j l. absurd (omega arith))
 
 -- what the walk learns of a count and of an exponent
-counted : (c : goal.In-Value) →
-    let a = c.args in
+counted : (c : goal.In-Value) → let a = c.args in
     let l = c.loop-i in
     let v = c.count-1.given.0 in
     (leb (number2 a.board.now (a.at + 4 + 6 * l.i)) a.ballots ≡ true) × (v.1.0 ≡ a.at + 6 + 6 * l.i)
@@ -32,21 +32,20 @@ counted c =
     let w = count_value a.board.now l.place a.ballots (sym c.count.ensures ∙ c.in-Value.is) in
     (rw (← l.invariant.1) w.0, omega (arith, w.1), rw (← l.invariant.1) w.2)
 
-raised : (c : goal.In-Value-exponent) →
-    let a = c.args in
+raised : (c : goal.In-Value-exponent) → let a = c.args in
     let l = c.loop-i in
     let v = c.x-1.given.0 in
     (ltb (number4 a.board.now (a.at + 6 + 6 * l.i)) a.h.setup.group.q ≡ true) × (v.1.0 ≡ a.at + 4 + 6 * (l.i + 1))
     × (v.0.0 ≡ number4 a.board.now (a.at + 6 + 6 * l.i))
 raised c =
+    let counted : (let a = c.args in let l = c.loop-i in let v = c.count-1.given.0 in (leb (number2 a.board.now (a.at + 4 + 6 * l.i)) a.ballots ≡ true) × (v.1.0 ≡ a.at + 6 + 6 * l.i) × (v.0 ≡ number2 a.board.now (a.at + 4 + 6 * l.i))) = let a = c.args in let l = c.loop-i in let w = count_value a.board.now l.place a.ballots (sym c.count.ensures ∙ c.in-Value.is) in (rw (← l.invariant.1) w.0, omega (arith, w.1), rw (← l.invariant.1) w.2) in
     let a = c.args in
-    let e = (counted c.before.before.before.before).1 in
+    let e = counted.1 in
     let w = exponent_value a.board.now c.in-Value.after a.h.setup.group.q
     (sym c.exponent.ensures ∙ c.in-Value-exponent.is) in
     (rw (← e) w.0, omega (arith, w.1), rw (← e) w.2)
 
-room : (c : goal.In-Value-exponent) →
-    (c.loop-i.i < c.args.h.n)
+room : (c : goal.In-Value-exponent) → (c.loop-i.i < c.args.h.n)
     × (c.args.h.n ≤ 8)
 room c = (c.loop-i-test.true, c.requires.0.high)
 
@@ -63,7 +62,7 @@ unfolding Counted
 returns-in_default-exponent c =
     let a = c.args in
     let l = c.loop-i in
-    let k = counted c.before.before.before in
+    let k = counted (goal.at.returns-in_default-exponent c).In-Value in
     exponent_large a.board.now a.h a.ballots a.at a.h.n l.i c.loop-i-test.true l.inv.4 k.0
     (rw (← k.1) (exponent_refused a.board.now c.in-Value.after a.h.setup.group.q
     (sym c.exponent.ensures ∙ c.in_default-exponent.is)))
@@ -72,7 +71,7 @@ pub loop-i-preserved : goal.loop-i-preserved
 loop-i-preserved c =
     let a = c.args in
     let l = c.loop-i in
-    let k = counted c.before.before.before.before in
+    let k = counted (goal.at.loop-i-preserved c).In-Value in
     let x = raised c in (
       omega (arith, room c),
       x.1,

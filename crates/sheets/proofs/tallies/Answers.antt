@@ -14,10 +14,10 @@ use Rattle.sheets.specs.Tallies.{element_of}
 use Rattle.sheets.proofs.tallies.Goals as goal
 
 pub returns-then-not-pair_opens : goal.returns-then-not-pair_opens
-returns-then-not-pair_opens c = sym (all_fails _ c.loop-i.i _ (omega arith) (sym c.pair_opens.ensures ∙ not-true _ c.if-not-pair_opens.true))
+returns-then-not-pair_opens c = sym (all_fails _ c.loop-i.i _ (omega arith) (sym c.pair_opens.ensures ∙ c.if-not-pair_opens.true))
 
 pub loop-i-preserved : goal.loop-i-preserved
-loop-i-preserved c = (omega arith, all_more _ _ c.loop-i.invariant.1 (sym c.pair_opens.ensures ∙ not-false _ c.if-not-pair_opens.false))
+loop-i-preserved c = (omega arith, all_more _ _ c.loop-i.invariant.1 (sym c.pair_opens.ensures ∙ c.if-not-pair_opens.false))
 
 pub returns : goal.returns
 returns c = sym (all_end _ c.loop-i.i _ c.loop-i.invariant.0 (omega arith) c.loop-i.invariant.1)

@@ -9,10 +9,8 @@ use borrow.Author.Tests.{le-leb, lt-leb, lt-ltb, le-ltb}
 use Rattle.numbers.specs.Below.{all_below}
 use Rattle.numbers.proofs.Tests.{all_none, all_more, all_fails, all_end}
 use borrow.Author.Rules.{rules}
+use Rattle.validity.proofs.draws_good.Invariants.{good}
 use Rattle.validity.proofs.draws_good.Goals as goal
-
-abbrev good : (draws : List ℕ) (q d : ℕ) → Bool
-good draws q d = leb 1 (get_or draws d 0) && ltb (get_or draws d 0) q
 
 -- a bad one ends it
 one_bad : (draws : List ℕ) (needed q d : ℕ) → needed ≤ length draws → d < needed → good draws q d ≡ false → false ≡ (leb needed (length draws) && all_below needed (good draws q))

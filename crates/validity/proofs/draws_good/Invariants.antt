@@ -11,6 +11,9 @@ use Rattle.numbers.proofs.Tests.{all_none, all_more, all_fails, all_end}
 use borrow.Author.Rules.{rules}
 use Rattle.validity.proofs.draws_good.Given as goal
 
+abbrev pub good : (draws : List ℕ) (q d : ℕ) → Bool
+good draws q d = leb 1 (get_or draws d 0) && ltb (get_or draws d 0) q
+
 abbrev pub invariant-loop-d : goal.invariant-loop-d
 invariant-loop-d l = (l.d ≤ l.needed) × (all_below l.d (good l.draws l.q) ≡ true)
 

@@ -9,24 +9,22 @@ use Rattle.numbers.specs.Below.{all_below}
 use Rattle.numbers.proofs.Tests.{all_none, all_more, all_fails, all_end}
 use Rattle.rules.specs.Records.{is_counted, is_audited}
 use borrow.Author.Rules.{rules}
+use Rattle.validity.proofs.kinds_good.Invariants.{good}
 use Rattle.validity.proofs.kinds_good.Goals as goal
-
-abbrev good : (kinds : List ℕ) (b : ℕ) → Bool
-good kinds b = is_counted (get_or kinds b 0) || is_audited (get_or kinds b 0)
 
 pub returns-then-not-is_kind : goal.returns-then-not-is_kind
 returns-then-not-is_kind c =
     let f = c.args in
     let l = c.loop-b in
     let bad : good f.kinds.now l.b ≡ c.is_kind.result = sym (c.is_kind.ensures ∙ rw c.wide.ensures) in
-    sym (rw (eq-eqb (length f.kinds.now) f.k c.if-kinds-k.false, all_fails f.k l.b (good f.kinds.now) (omega arith) (bad ∙ not-true _ c.if-not-is_kind.true)))
+    sym (rw (eq-eqb (length f.kinds.now) f.k c.if-kinds-k.false, all_fails f.k l.b (good f.kinds.now) (omega arith) (bad ∙ c.if-not-is_kind.true)))
 
 pub loop-b-preserved : goal.loop-b-preserved
 loop-b-preserved c =
     let f = c.args in
     let l = c.loop-b in
     let fine : good f.kinds.now l.b ≡ c.is_kind.result = sym (c.is_kind.ensures ∙ rw c.wide.ensures) in
-    (omega arith, all_more l.b (good f.kinds.now) l.invariant.1 (fine ∙ not-false _ c.if-not-is_kind.false))
+    (omega arith, all_more l.b (good f.kinds.now) l.invariant.1 (fine ∙ c.if-not-is_kind.false))
 
 pub returns : goal.returns
 returns c =

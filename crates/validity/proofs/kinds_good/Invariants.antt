@@ -11,6 +11,9 @@ use Rattle.rules.specs.Records.{is_counted, is_audited}
 use borrow.Author.Rules.{rules}
 use Rattle.validity.proofs.kinds_good.Given as goal
 
+abbrev pub good : (kinds : List ℕ) (b : ℕ) → Bool
+good kinds b = is_counted (get_or kinds b 0) || is_audited (get_or kinds b 0)
+
 abbrev pub invariant-loop-b : goal.invariant-loop-b
 invariant-loop-b l = (l.b ≤ l.k) × (all_below l.b (good l.kinds) ≡ true)
 

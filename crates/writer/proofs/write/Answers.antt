@@ -17,11 +17,12 @@ use Rattle.writer.specs.Steps.{Measured, Puts}
 use Rattle.writer.proofs.Outcomes.{measurable, measured, measured_rounds, draws_are, enough, repeats_are, stops_draws, stops_repeat, stops_room, refuses}
 use Rattle.writer.proofs.Boards.{bytes_for, can, sheeted, room, writes}
 use borrow.Author.Rules.{rules}
+use Rattle.writer.proofs.write.Goals.{After-draws_good, After-measure_of-m, After-new-setup, After-none_repeats-different, After-up_to_kinds-tested, Else-not-draws_good, In-Sound}
 use Rattle.writer.proofs.write.Goals as goal
 
-abbrev job_at : tie.After-up-to-kinds → J.Job
+abbrev job_at : (c : goal.After-up_to_kinds-tested) → J.Job
 job_at c =
-    let f = c.before.before.before.before.before.before.args in
+    let f = c.args in
     job_of f.job f.label.now f.rankings.now f.kinds.now f.draws.now
 
 -- what the first tests told, in the case that was met
@@ -29,52 +30,76 @@ told : (c : goal.After-up_to_kinds-tested) (t : Tested) → c.up_to_kinds-tested
 told c t e = subst (JobTested (job_at c)) e (c.up_to_kinds-tested.ensures _)
 
 -- the tests were passed, and this is the group
-abbrev job : tie.After-known-told → J.Job
-job c = job_at c.before.before.before
+abbrev job : (c : goal.In-Sound) → J.Job
+job c =
+    let job_at : (J.Job) = let f = c.args in job_of f.job f.label.now f.rankings.now f.kinds.now f.draws.now in
+    job_at
 
 sound : (c : goal.In-Sound) → Passed sha256 (job c) × (parameters_of c.in-Sound.g ≡ group_of sha256 (job c))
 unfolding JobTested
-sound c = told c.before.before.before _ c.in-Sound.is
+sound c =
+    let told : (let job_at : (J.Job) = let f = c.args in job_of f.job f.label.now f.rankings.now f.kinds.now f.draws.now in (t : Tested) → c.up_to_kinds-tested.result ≡ t → JobTested job_at t) = λ t e. let job_at : (J.Job) = let f = c.args in job_of f.job f.label.now f.rankings.now f.kinds.now f.draws.now in subst (JobTested job_at) e (c.up_to_kinds-tested.ensures _) in
+    told _ c.in-Sound.is
 
-measured_is : (c : goal.After-measure_of-m) → Measured (job c) c.count-ended.result c.measure_of-m.result
-measured_is c = measured (job c) _ _ c.count-ended.ensures c.measure_of-m.ensures
+measured_is : (c : goal.After-measure_of-m) → let job : (J.Job) = let job_at : (J.Job) = let f = c.args in job_of f.job f.label.now f.rankings.now f.kinds.now f.draws.now in job_at in
+    Measured job c.count-ended.result c.measure_of-m.result
+measured_is c =
+    let job : (J.Job) = let job_at : (J.Job) = let f = c.args in job_of f.job f.label.now f.rankings.now f.kinds.now f.draws.now in job_at in
+    measured job _ _ c.count-ended.ensures c.measure_of-m.ensures
 
-draws_told : (c : goal.After-draws_good) → c.draws_good.result ≡ draws_good (job c)
-draws_told c = draws_are (job c) _ _ (measured_is c.before).needed c.draws_good.ensures
+draws_told : (c : goal.After-draws_good) → let job : (J.Job) = let job_at : (J.Job) = let f = c.args in job_of f.job f.label.now f.rankings.now f.kinds.now f.draws.now in job_at in
+    c.draws_good.result ≡ draws_good job
+draws_told c =
+    let measured_is : (let job : (J.Job) = let job_at : (J.Job) = let f = c.args in job_of f.job f.label.now f.rankings.now f.kinds.now f.draws.now in job_at in Measured job c.count-ended.result c.measure_of-m.result) = let job : (J.Job) = let job_at : (J.Job) = let f = c.args in job_of f.job f.label.now f.rankings.now f.kinds.now f.draws.now in job_at in measured job _ _ c.count-ended.ensures c.measure_of-m.ensures in
+    let job : (J.Job) = let job_at : (J.Job) = let f = c.args in job_of f.job f.label.now f.rankings.now f.kinds.now f.draws.now in job_at in
+    draws_are job _ _ measured_is.needed c.draws_good.ensures
 
-fair : (c : goal.Else-not-draws_good) → Valid sha256 (job c)
-fair c = record { passed = (sound c.before.before.before.before.before.before).0; drawn = sym (draws_told c.before) ∙ not-false _ c.if-not-draws_good.false }
+fair : (c : goal.Else-not-draws_good) → let job : (J.Job) = let job_at : (J.Job) = let f = c.args in job_of f.job f.label.now f.rankings.now f.kinds.now f.draws.now in job_at in
+    Valid sha256 job
+unfolding JobTested
+fair c =
+    let draws_told : (let job : (J.Job) = let job_at : (J.Job) = let f = c.args in job_of f.job f.label.now f.rankings.now f.kinds.now f.draws.now in job_at in c.draws_good.result ≡ draws_good job) = let measured_is : (let job : (J.Job) = let job_at : (J.Job) = let f = c.args in job_of f.job f.label.now f.rankings.now f.kinds.now f.draws.now in job_at in Measured job c.count-ended.result c.measure_of-m.result) = let job : (J.Job) = let job_at : (J.Job) = let f = c.args in job_of f.job f.label.now f.rankings.now f.kinds.now f.draws.now in job_at in measured job _ _ c.count-ended.ensures c.measure_of-m.ensures in let job : (J.Job) = let job_at : (J.Job) = let f = c.args in job_of f.job f.label.now f.rankings.now f.kinds.now f.draws.now in job_at in draws_are job _ _ measured_is.needed c.draws_good.ensures in
+    let sound : (let job : (J.Job) = let job_at : (J.Job) = let f = c.args in job_of f.job f.label.now f.rankings.now f.kinds.now f.draws.now in job_at in Passed sha256 job × (parameters_of c.in-Sound.g ≡ group_of sha256 job)) = let told : (let job_at : (J.Job) = let f = c.args in job_of f.job f.label.now f.rankings.now f.kinds.now f.draws.now in (t : Tested) → c.up_to_kinds-tested.result ≡ t → JobTested job_at t) = λ t e. let job_at : (J.Job) = let f = c.args in job_of f.job f.label.now f.rankings.now f.kinds.now f.draws.now in subst (JobTested job_at) e (c.up_to_kinds-tested.ensures _) in told _ c.in-Sound.is in
+    record { passed = sound.0; drawn = sym draws_told ∙ c.if-not-draws_good.false }
 
-repeats_told : (c : goal.After-none_repeats-different) → c.none_repeats-different.result ≡ no_repeat (job (passed c))
-repeats_told c = repeats_are (job c) _ _ (measured_rounds (job c) (measured_is c.before.before.before.before)) c.none_repeats-different.ensures
+repeats_told : (c : goal.After-none_repeats-different) → let job : (J.Job) = let job_at : (J.Job) = let f = c.args in job_of f.job f.label.now f.rankings.now f.kinds.now f.draws.now in job_at in
+    c.none_repeats-different.result ≡ no_repeat job
+repeats_told c =
+    let measured_is : (let job : (J.Job) = let job_at : (J.Job) = let f = c.args in job_of f.job f.label.now f.rankings.now f.kinds.now f.draws.now in job_at in Measured job c.count-ended.result c.measure_of-m.result) = let job : (J.Job) = let job_at : (J.Job) = let f = c.args in job_of f.job f.label.now f.rankings.now f.kinds.now f.draws.now in job_at in measured job _ _ c.count-ended.ensures c.measure_of-m.ensures in
+    let job : (J.Job) = let job_at : (J.Job) = let f = c.args in job_of f.job f.label.now f.rankings.now f.kinds.now f.draws.now in job_at in
+    repeats_are job _ _ (measured_rounds job measured_is) c.none_repeats-different.ensures
 
-group_is : (c : goal.After-new-setup) → parameters_of c.new-setup.result.group ≡ group_of sha256 (job (passed c))
-group_is c = ap parameters_of c.new-setup.ensures.0 ∙ (sound (passed c)).1
+group_is : (c : goal.After-new-setup) → let job : (J.Job) = let job_at : (J.Job) = let f = c.args in job_of f.job f.label.now f.rankings.now f.kinds.now f.draws.now in job_at in
+    parameters_of c.new-setup.result.group ≡ group_of sha256 job
+unfolding JobTested
+group_is c =
+    let sound : (let job : (J.Job) = let job_at : (J.Job) = let f = c.args in job_of f.job f.label.now f.rankings.now f.kinds.now f.draws.now in job_at in Passed sha256 job × (parameters_of c.in-Sound.g ≡ group_of sha256 job)) = let told : (let job_at : (J.Job) = let f = c.args in job_of f.job f.label.now f.rankings.now f.kinds.now f.draws.now in (t : Tested) → c.up_to_kinds-tested.result ≡ t → JobTested job_at t) = λ t e. let job_at : (J.Job) = let f = c.args in job_of f.job f.label.now f.rankings.now f.kinds.now f.draws.now in subst (JobTested job_at) e (c.up_to_kinds-tested.ensures _) in told _ c.in-Sound.is in
+    ap parameters_of c.new-setup.ensures.0 ∙ sound.1
 
 pub returns-in-Refused : goal.returns-in-Refused
 unfolding JobTested
-returns-in-Refused c = refuses (job_at c) _ _ c.refused.result _ _ (told c.before.before.before.before _ c.in-Refused.is _) c.refused.ensures refl
+returns-in-Refused c = refuses (job_at (goal.at.returns-in-Refused c).After-up_to_kinds-tested) _ _ c.refused.result _ _ (told (goal.at.returns-in-Refused c).After-up_to_kinds-tested _ c.in-Refused.is _) c.refused.ensures refl
 
 pub returns-then-not-draws_good : goal.returns-then-not-draws_good
 returns-then-not-draws_good c =
-    let bad = sym (draws_told c.before.before) ∙ not-true _ c.if-not-draws_good.true in
-    refuses (job c) _ _ c.refused-then-not-draws_good.result 14 0 (stops_draws (job c) _ (sound c.before.before.before.before.before.before.before).0 bad) c.refused-then-not-draws_good.ensures refl
+    let bad = sym (draws_told (goal.at.returns-then-not-draws_good c).After-draws_good) ∙ c.if-not-draws_good.true in
+    refuses (job (goal.at.returns-then-not-draws_good c).In-Sound) _ _ c.refused-then-not-draws_good.result 14 0 (stops_draws (job (goal.at.returns-then-not-draws_good c).In-Sound) _ (sound (goal.at.returns-then-not-draws_good c).In-Sound).0 bad) c.refused-then-not-draws_good.ensures refl
 
 pub none_repeats-different-requires : goal.none_repeats-different-requires
 none_repeats-different-requires c =
-    let w = measurable (job c) (sound c.before.before.before.before.before.before.before).0 in (
+    let w = measurable (job (goal.at.none_repeats-different-requires c).In-Sound) (sound (goal.at.none_repeats-different-requires c).In-Sound).0 in (
       w.1,
       omega (arith, c.count-ended.ensures.2),
       w.4,
-      omega (arith, c.measure_of-m.ensures.0, (measured_is c.before.before.before).needed, enough (job c) (fair c.before).drawn),
+      omega (arith, c.measure_of-m.ensures.0, (measured_is (goal.at.none_repeats-different-requires c).After-measure_of-m).needed, enough (job (goal.at.none_repeats-different-requires c).In-Sound) (fair (goal.at.none_repeats-different-requires c).Else-not-draws_good).drawn),
     )
 
 pub put_board-put-requires : goal.put_board-put-requires
 put_board-put-requires c =
-    let v = fair c.before.before.before.before in
-    let j = job c in record {
-      ready = (c.new-setup.ensures.1, can j v _ _ (measured_is c.before.before.before.before.before.before) _ (group_is c.before), sheeted j v _ _ (measured_is c.before.before.before.before.before.before) _ (group_is c.before), (fine sha256 j v).labelled);
-      header_length_le_length = room j v _ _ (measured_is c.before.before.before.before.before.before) _ (group_is c.before);
+    let v = fair (goal.at.put_board-put-requires c).Else-not-draws_good in
+    let j = job (goal.at.put_board-put-requires c).In-Sound in record {
+      ready = (c.new-setup.ensures.1, can j v _ _ (measured_is (goal.at.put_board-put-requires c).After-measure_of-m) _ (group_is (goal.at.put_board-put-requires c).After-new-setup), sheeted j v _ _ (measured_is (goal.at.put_board-put-requires c).After-measure_of-m) _ (group_is (goal.at.put_board-put-requires c).After-new-setup), (fine sha256 j v).labelled);
+      header_length_le_length = room j v _ _ (measured_is (goal.at.put_board-put-requires c).After-measure_of-m) _ (group_is (goal.at.put_board-put-requires c).After-new-setup);
     }
 
 -- where the board was to be put
@@ -93,7 +118,7 @@ module _ (c : tie.After-put-board) where
 pub returns-in-Written : goal.returns-in-Written
 returns-in-Written c =
     let w = subst (Puts _ _ (bytes c) _ _) c.in-Written.is c.put_board-put.ensures in
-    writes (job (passed (at c))) (fair (drawn (compared c))) _ _ (measured_is (at c)) _ (group_is c.before.before.before.before.before.before.before) (sym (repeats_told (compared c)) ∙ w.0) _ _
+    writes (job (passed (at c))) (fair (drawn (compared c))) _ _ (measured_is (at c)) _ (group_is (goal.at.returns-in-Written c).After-new-setup) (sym (repeats_told (compared c)) ∙ w.0) _ _
     c.board_written.result (w.1, w.2) c.board_written.ensures
 
 pub returns-in-Repeat : goal.returns-in-Repeat
@@ -112,10 +137,10 @@ pub count-ended-requires : goal.count-ended-requires
 count-ended-requires c = measurable (job c) (sound c).0
 
 pub measure_of-m-requires : goal.measure_of-m-requires
-measure_of-m-requires c = let w = measurable (job c) (sound c.before.before.before).0 in (w.1, omega (arith, c.count-ended.ensures.2), w.2, w.4)
+measure_of-m-requires c = let w = measurable (job (goal.at.measure_of-m-requires c).In-Sound) (sound (goal.at.measure_of-m-requires c).In-Sound).0 in (w.1, omega (arith, c.count-ended.ensures.2), w.2, w.4)
 
 pub new-setup-requires : goal.new-setup-requires
-new-setup-requires c = let t = passed c in group_positive (job t) _ (sound t).1 (sound t).0.ordered
+new-setup-requires c = group_positive (job (goal.at.new-setup-requires c).In-Sound) _ (sound (goal.at.new-setup-requires c).In-Sound).1 (sound (goal.at.new-setup-requires c).In-Sound).0.ordered
 
 pub board_written-requires : goal.board_written-requires
 board_written-requires c = (measured_is (at c)).kept

@@ -12,6 +12,7 @@ use Rattle.ballots.proofs.Pages.{row_few, paged_same}
 use Rattle.rules.proofs.Sizes.{cells}
 use Rattle.ballots.proofs.Entries.{spread_part, planned_entry, entry_is}
 use borrow.Author.Rules.{rules}
+use Rattle.ballots.proofs.ballot.write_entry.Goals.{After-opened-v}
 use Rattle.ballots.proofs.ballot.write_entry.Goals as goal
 
 pub opened-v-requires : goal.opened-v-requires
@@ -34,8 +35,7 @@ make-requires c =
     }
 
 -- the pair and its draws are within bounds
-near : (c : goal.After-opened-v) →
-    let f = c.args in
+near : (c : goal.After-opened-v) → let f = c.args in
     (f.c < f.b.n * f.b.n) × (f.b.n * f.b.n ≤ 64) × (f.b.from + (4 * (f.b.n * f.b.n) + 2 * f.b.n) < 2 ^ 40)
 near c = (c.requires.ready.3, cells c.args.b.n c.requires.ready.2, c.requires.draws_below.near)
 
@@ -71,4 +71,4 @@ pub offset_bounds-draws-at : goal.offset_bounds-draws-at
 offset_bounds-draws-at c = omega (arith, near c)
 
 pub bounds-draws-at : goal.bounds-draws-at
-bounds-draws-at c = omega (arith, near c.before, c.requires.draws_below.enough)
+bounds-draws-at c = omega (arith, near (goal.at.bounds-draws-at c).After-opened-v, c.requires.draws_below.enough)

@@ -15,11 +15,11 @@ use Rattle.ballots.proofs.Secrets.{line_sum_lem}
 use Rattle.rules.proofs.Sizes.{cells}
 use Rattle.ballots.proofs.Entries.{spread_part, planned_line, line_ready, line_is, line_says}
 use borrow.Author.Rules.{rules}
+use Rattle.ballots.proofs.lines.write_line.Goals.{After-line_of-line}
 use Rattle.ballots.proofs.lines.write_line.Goals as goal
 
 -- the line is within the matrix
-fits : (c : goal.After-line_of-line) →
-    let n = c.args.b.n in
+fits : (c : goal.After-line_of-line) → let n = c.args.b.n in
     let line = c.line_of-line.result in
     (line.start + line.stride * (n - 1) < n * n) × (line.start < n * n) × (line.stride ≤ n * n) × (n * n ≤ 64)
 fits c =
@@ -31,7 +31,7 @@ fits c =
 pub sum_of-sum-requires : goal.sum_of-sum-requires
 sum_of-sum-requires c =
     let p = c.requires.ready in
-    let f = fits c.before in
+    let f = fits (goal.at.sum_of-sum-requires c).After-line_of-line in
     (p.0.q_pos, omega (arith, p), omega (arith, f), omega (arith, p, f, c.requires.draws_below.near), omega (arith, f, c.requires.draws_below.enough))
 
 pub make-requires : goal.make-requires
@@ -43,7 +43,7 @@ make-requires c =
       ready = (
         p.0,
         planned_line g f.page.now _ _ f.draws.now _
-            (λ l i. rw (line.ensures.0, line.ensures.1) (line_ready g f.b.n f.page.now _ (omega (arith, p.5, fits c.before.before.before.before.before.before.before)) l i f.t p.3))
+            (λ l i. rw (line.ensures.0, line.ensures.1) (line_ready g f.b.n f.page.now _ (omega (arith, p.5, fits (goal.at.make-requires c).After-line_of-line)) l i f.t p.3))
             (spread_part f.g.group.q f.draws.now f.b.from _ _ 1 c.requires.draws_below (omega (arith, p))),
       );
       statements_in_bounds = omega (arith, p.4);
@@ -71,28 +71,28 @@ pub line_of-line-requires : goal.line_of-line-requires
 line_of-line-requires c = (c.requires.ready.3, omega (arith, cells c.args.b.n c.requires.ready.2))
 
 pub overflow_add-first : goal.overflow_add-first
-overflow_add-first c = omega (arith, fits c.before, c.requires.draws_below.near)
+overflow_add-first c = omega (arith, fits (goal.at.overflow_add-first c).After-line_of-line, c.requires.draws_below.near)
 
 pub overflow_mul-claim : goal.overflow_mul-claim
-overflow_mul-claim c = omega (arith, fits c.before.before.before)
+overflow_mul-claim c = omega (arith, fits (goal.at.overflow_mul-claim c).After-line_of-line)
 
 pub overflow_mul-claim-2 : goal.overflow_mul-claim-2
-overflow_mul-claim-2 c = omega (arith, fits c.before.before.before.before)
+overflow_mul-claim-2 c = omega (arith, fits (goal.at.overflow_mul-claim-2 c).After-line_of-line)
 
 pub overflow_mul-plan : goal.overflow_mul-plan
-overflow_mul-plan c = omega (arith, fits c.before.before.before.before)
+overflow_mul-plan c = omega (arith, fits (goal.at.overflow_mul-plan c).After-line_of-line)
 
 pub overflow_mul-plan-2 : goal.overflow_mul-plan-2
-overflow_mul-plan-2 c = omega (arith, fits c.before.before.before.before)
+overflow_mul-plan-2 c = omega (arith, fits (goal.at.overflow_mul-plan-2 c).After-line_of-line)
 
 pub overflow_add-plan : goal.overflow_add-plan
-overflow_add-plan c = omega (arith, fits c.before.before.before.before, c.requires.draws_below.near)
+overflow_add-plan c = omega (arith, fits (goal.at.overflow_add-plan c).After-line_of-line, c.requires.draws_below.near)
 
 pub overflow_add-plan-2 : goal.overflow_add-plan-2
-overflow_add-plan-2 c = omega (arith, fits c.before.before.before.before, c.requires)
+overflow_add-plan-2 c = omega (arith, fits (goal.at.overflow_add-plan-2 c).After-line_of-line, c.requires)
 
 pub overflow_mul-n : goal.overflow_mul-n
-overflow_mul-n c = omega (arith, fits c.before.before.before.before)
+overflow_mul-n c = omega (arith, fits (goal.at.overflow_mul-n c).After-line_of-line)
 
 pub overflow_add-n : goal.overflow_add-n
-overflow_add-n c = omega (arith, fits c.before.before.before.before, c.requires.ready.3)
+overflow_add-n c = omega (arith, fits (goal.at.overflow_add-n c).After-line_of-line, c.requires.ready.3)

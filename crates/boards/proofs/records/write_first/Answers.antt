@@ -17,9 +17,10 @@ use Rattle.boards.proofs.Plans.{ballot_is}
 use Rattle.jobs.proofs.Draws.{draws_within}
 use Rattle.statements.proofs.Lines.{row_below}
 use borrow.Author.Rules.{rules}
+use Rattle.boards.proofs.records.write_first.Goals.{Start}
 use Rattle.boards.proofs.records.write_first.Goals as goal
 
-abbrev job_at : tie.Start → J.Job
+abbrev job_at : (s : goal.Start) → J.Job
 job_at s = board_job s.args.head s.args.label.now s.args.rankings.now s.args.kinds.now s.args.draws.now
 
 -- the ranking is within the list
@@ -34,11 +35,11 @@ pub write_ballot-requires : goal.write_ballot-requires
 write_ballot-requires c =
     let f = c.args in
     let p = c.requires in
-    let job = job_at c in
+    let job = job_at (goal.at.write_ballot-requires c).Start in
     let kind = kind_of job f.turn.b in
     let d = subst (λ (m : ℕ). DrawsBelow job.q job.draws 0 (draws_before job (suc m))) p.2 p.1.round.drawn in record {
       ready = (p.0, omega (arith, p.1.round.early), p.1.round.n_high, omega (arith, length_first job.n kind f.turn.plan.m p.2, p.3));
-      draws_below = spread_part _ f.draws.now 0 _ _ _ d (omega (arith, here c.before.before.before.before.before.before.before.before.before.before.before, draws_first job.n kind 0 refl, draws_within job.n (kind_of job) job.K 0 f.turn.b p.1.below));
+      draws_below = spread_part _ f.draws.now 0 _ _ _ d (omega (arith, here (goal.at.write_ballot-requires c).Start, draws_first job.n kind 0 refl, draws_within job.n (kind_of job) job.K 0 f.turn.b p.1.below));
     }
 
 pub returns : goal.returns
@@ -48,10 +49,10 @@ returns c =
     let p = c.requires in
     c.write_ballot.ensures
     ∙ ap (λ (x : List ℕ). written x f.out.now)
-    (ballot_is (job_at c) (head_group f.head) f.turn.b t.m _ _ (list_of t.before) _ t.a _ p.2 c.low16.ensures (here c.before.before.before.before.before.before.before.before.before.before.before.before.before.before) (p.1.round.first p.2) c.still_in-list.ensures)
+    (ballot_is (job_at (goal.at.returns c).Start) (head_group f.head) f.turn.b t.m _ _ (list_of t.before) _ t.a _ p.2 c.low16.ensures (here (goal.at.returns c).Start) (p.1.round.first p.2) c.still_in-list.ensures)
 
 pub overflow_mul-first : goal.overflow_mul-first
-overflow_mul-first c = omega (arith, ranked c.before.before.before.before.before)
+overflow_mul-first c = omega (arith, ranked (goal.at.overflow_mul-first c).Start)
 
 pub still_in-list-requires : goal.still_in-list-requires
-still_in-list-requires c = (c.requires.1.round.n_high, ranked c.before.before.before.before.before.before, c.requires.1.round.gone_listed)
+still_in-list-requires c = (c.requires.1.round.n_high, ranked (goal.at.still_in-list-requires c).Start, c.requires.1.round.gone_listed)

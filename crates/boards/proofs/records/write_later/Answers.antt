@@ -15,13 +15,14 @@ use Rattle.boards.specs.Parts.{board_job, head_group, Later}
 use Rattle.statements.proofs.Lines.{row_below}
 use Rattle.boards.proofs.Plans.{place_is, none_later, later_is, shifting}
 use borrow.Author.Rules.{rules}
+use Rattle.boards.proofs.records.write_later.Goals.{Start}
 use Rattle.boards.proofs.records.write_later.Goals as goal
 
-abbrev job_at : tie.Start → J.Job
+abbrev job_at : (s : goal.Start) → J.Job
 job_at s = board_job s.args.head s.args.label.now s.args.rankings.now s.args.kinds.now s.args.draws.now
 
 -- the round before
-abbrev was : tie.Start → ℕ
+abbrev was : (s : goal.Start) → ℕ
 was s = s.args.turn.plan.m - 1
 
 next : (s : goal.Start) → s.args.turn.plan.m ≡ suc (was s)
@@ -39,7 +40,7 @@ returns-then-wide-ne-COUNTED c =
     let f = c.args in
     let t = f.turn.plan in
     none _
-    ∙ ap (λ (x : List ℕ). written x f.out.now) (none_later (job_at c) (head_group f.head) (list_of t.before) t.a t.m f.turn.b c.requires.2 (λ e. c.if-wide-ne-COUNTED.true (c.wide.ensures ∙ e)))
+    ∙ ap (λ (x : List ℕ). written x f.out.now) (none_later (job_at (goal.at.returns-then-wide-ne-COUNTED c).Start) (head_group f.head) (list_of t.before) t.a t.m f.turn.b c.requires.2 (λ e. c.if-wide-ne-COUNTED.true (c.wide.ensures ∙ e)))
 
 -- the shift that is handed on
 module _ (c : tie.After-write-shift-arg) where
@@ -72,37 +73,35 @@ module _ (c : tie.After-write-shift-arg) where
 
 pub write_shift-requires : goal.write_shift-requires
 write_shift-requires c =
-    let s = start c in
-    let f = s.args in
+    let f = c.args in
     let t = f.turn.plan in
-    let p = s.pre in
-    let l = left s in record {
+    let p = c.requires in
+    let l = left (goal.at.write_shift-requires c).Start in record {
       ready = (
         p.0,
-        shifting (job_at s) (head_group f.head) f.turn.b (was s) (list_of t.before) t.a _ (counted c) refl (rows_is c) (round_is c) c.low16.ensures c.still_in-before.ensures (after_is c) (struck_is c) (column_is c) (p.1.old (was s) (next s)) (new_is c)
-            f.head.setup.group.p p.0.p_pos p.1.round.n_high (rw (← (next s)) p.1.round.early) p.1.below l.low l.high (l.place f.turn.b p.1.below) (rw (← (next s)) p.1.round.drawn),
+        shifting (job_at (goal.at.write_shift-requires c).Start) (head_group f.head) f.turn.b (was (goal.at.write_shift-requires c).Start) (list_of t.before) t.a _ (counted c) refl (rows_is c) (round_is c) c.low16.ensures c.still_in-before.ensures (after_is c) (struck_is c) (column_is c) (p.1.old (was (goal.at.write_shift-requires c).Start) (next (goal.at.write_shift-requires c).Start)) (new_is c)
+            f.head.setup.group.p p.0.p_pos p.1.round.n_high (rw (← (next (goal.at.write_shift-requires c).Start)) p.1.round.early) p.1.below l.low l.high (l.place f.turn.b p.1.below) (rw (← (next (goal.at.write_shift-requires c).Start)) p.1.round.drawn),
       );
-      n_in_bounds = omega (arith, length_later f.head.n (kind_of (job_at s) f.turn.b) t.m (λ e. omega (arith, p.2)) (counted c), p.3);
+      n_in_bounds = omega (arith, length_later f.head.n (kind_of (job_at (goal.at.write_shift-requires c).Start) f.turn.b) t.m (λ e. omega (arith, p.2)) (counted c), p.3);
     }
 
 pub returns : goal.returns
 returns c =
-    let s = start c in
-    let f = s.args in
+    let f = c.args in
     let t = f.turn.plan in
     c.write_shift.ensures
     ∙ ap (λ (x : List ℕ). written x f.out.now)
-    (later_is (job_at s) (head_group f.head) f.turn.b (was s) (list_of t.before) t.a _ (counted c) refl (rows_is c) (round_is c) c.low16.ensures c.still_in-before.ensures (after_is c) (struck_is c) (column_is c) (s.pre.1.old (was s) (next s)) (new_is c)
-    t.m (next s))
+    (later_is (job_at (goal.at.returns c).Start) (head_group f.head) f.turn.b (was (goal.at.returns c).Start) (list_of t.before) t.a _ (counted c) refl (rows_is c) (round_is c) c.low16.ensures c.still_in-before.ensures (after_is c) (struck_is c) (column_is c) (c.requires.1.old (was (goal.at.returns c).Start) (next (goal.at.returns c).Start)) (new_is c)
+    t.m (next (goal.at.returns c).Start))
 
 pub overflow_mul-first : goal.overflow_mul-first
-overflow_mul-first c = omega (arith, ranked c.before.before.before.before.before.before.before.before.before)
+overflow_mul-first c = omega (arith, ranked (goal.at.overflow_mul-first c).Start)
 
 pub still_in-before-requires : goal.still_in-before-requires
-still_in-before-requires c = (c.requires.1.round.n_high, ranked c.before.before.before.before.before.before.before.before.before.before.before, c.requires.1.round.before_listed)
+still_in-before-requires c = (c.requires.1.round.n_high, ranked (goal.at.still_in-before-requires c).Start, c.requires.1.round.before_listed)
 
 pub still_in-after-requires : goal.still_in-after-requires
-still_in-after-requires c = (c.requires.1.round.n_high, ranked c.before.before.before.before.before.before.before.before.before.before.before.before, c.requires.1.round.gone_listed)
+still_in-after-requires c = (c.requires.1.round.n_high, ranked (goal.at.still_in-after-requires c).Start, c.requires.1.round.gone_listed)
 
 pub overflow_sub-s-2 : goal.overflow_sub-s-2
-overflow_sub-s-2 c = omega (arith, c.wide-2.ensures, (left (start c)).low)
+overflow_sub-s-2 c = omega (arith, c.wide-2.ensures, (left (goal.at.overflow_sub-s-2 c).Start).low)

@@ -16,9 +16,10 @@ use Rattle.count.specs.State.{list_of}
 use Rattle.boards.specs.Parts.{board_job, head_group}
 use Rattle.boards.proofs.RoundPlans.{length_records}
 use borrow.Author.Rules.{rules}
+use Rattle.boards.proofs.records.write_records.Goals.{In-loop-b, Start}
 use Rattle.boards.proofs.records.write_records.Goals as goal
 
-abbrev job_at : tie.Start invariant_loop decreases_loop → J.Job
+abbrev job_at : (s : goal.Start) → J.Job
 job_at s = board_job s.args.head s.args.label.now s.args.rankings.now s.args.kinds.now s.args.draws.now
 
 pub loop-b-init : goal.loop-b-init
@@ -26,8 +27,7 @@ unfolding sum_below concat_below
 loop-b-init c = (omega arith, refl, refl, omega arith, λ j e. omega arith, omega arith, omega arith, omega arith, none _)
 
 -- the record and its end are within the records
-within : (c : goal.In-loop-b) →
-    let f = c.args in
+within : (c : goal.In-loop-b) → let f = c.args in
     let l = c.loop-b in l.at + record_length f.head.n (get_or f.kinds.now l.b 0) f.plan.m ≤ length f.out.now
 within c =
     let f = c.args in
@@ -51,7 +51,7 @@ write_record-requires c =
         new = l.invariant.3 ∙ rw p.1.new;
         old = λ j e. l.invariant.4 j e ∙ rw (p.1.later j e).old;
       },
-      simp (length-take, length-drop) (omega (arith, within c.before.before.before, l.invariant.1)),
+      simp (length-take, length-drop) (omega (arith, within (goal.at.write_record-requires c).In-loop-b, l.invariant.1)),
     )
 
 pub loop-b-preserved : goal.loop-b-preserved
@@ -72,8 +72,8 @@ loop-b-preserved c =
       omega (arith, l.invariant.5, own.1),
       omega (arith, l.invariant.6, was.1),
       omega (arith, l.invariant.7, size.1),
-      joined_more (record_bytes sha256 (job_at c) g (list_of f.plan.before) f.plan.a f.plan.m) l.b l.at _ l.out _
-          (length_records sha256 (job_at c) g (list_of f.plan.before) f.plan.a f.plan.m l.b ∙ sym l.invariant.2) l.invariant.8 c.write_record.ensures,
+      joined_more (record_bytes sha256 (job_at (goal.at.loop-b-preserved c).Start) g (list_of f.plan.before) f.plan.a f.plan.m) l.b l.at _ l.out _
+          (length_records sha256 (job_at (goal.at.loop-b-preserved c).Start) g (list_of f.plan.before) f.plan.a f.plan.m l.b ∙ sym l.invariant.2) l.invariant.8 c.write_record.ensures,
     )
 
 pub returns : goal.returns
@@ -83,13 +83,13 @@ returns c =
     (l.invariant.2 ∙ rw e, l.invariant.8 ∙ rw e)
 
 pub slice_bounds-write_record-count : goal.slice_bounds-write_record-count
-slice_bounds-write_record-count c = omega (arith, within c.before.before, c.loop-b.invariant.1)
+slice_bounds-write_record-count c = omega (arith, within (goal.at.slice_bounds-write_record-count c).In-loop-b, c.loop-b.invariant.1)
 
 pub slice_bounds-write_record-start : goal.slice_bounds-write_record-start
-slice_bounds-write_record-start c = omega (arith, within c.before.before, c.loop-b.invariant.1)
+slice_bounds-write_record-start c = omega (arith, within (goal.at.slice_bounds-write_record-start c).In-loop-b, c.loop-b.invariant.1)
 
 pub slice_bounds-write_record-end : goal.slice_bounds-write_record-end
-slice_bounds-write_record-end c = omega (arith, within c.before.before, c.loop-b.invariant.1)
+slice_bounds-write_record-end c = omega (arith, within (goal.at.slice_bounds-write_record-end c).In-loop-b, c.loop-b.invariant.1)
 
 pub overflow_add-at : goal.overflow_add-at
 overflow_add-at c = omega (arith, c.loop-b.invariant.7, c.record_length-at.ensures.1, c.requires.1.K_high)
@@ -98,4 +98,4 @@ pub overflow_add-old : goal.overflow_add-old
 overflow_add-old c = omega (arith, c.loop-b.invariant.6, c.draws_before-old.ensures.1, c.requires.1.K_high, c.requires.1.old_low)
 
 pub overflow_add-new : goal.overflow_add-new
-overflow_add-new c = omega (arith, c.loop-b.invariant.5, c.record_draws-new.ensures.1, c.requires.1.K_high, near c.before.before.before.before.before.before.before.before.before.before.before.before.before.before.before.before)
+overflow_add-new c = omega (arith, c.loop-b.invariant.5, c.record_draws-new.ensures.1, c.requires.1.K_high, near (goal.at.overflow_add-new c).Start)

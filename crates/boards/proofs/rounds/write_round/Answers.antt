@@ -14,16 +14,17 @@ use Rattle.jobs.proofs.Draws.{columns_within, draws_mono}
 use Rattle.boards.proofs.RoundPlans.{length_records, from_round}
 use Rattle.count.specs.State.{list_of}
 use borrow.Author.Rules.{rules}
+use Rattle.boards.proofs.rounds.write_round.Goals.{Start}
 use Rattle.boards.proofs.rounds.write_round.Goals as goal
 
-abbrev job_at : tie.Start → J.Job
+abbrev job_at : (s : goal.Start) → J.Job
 job_at s = board_job s.args.head s.args.label.now s.args.rankings.now s.args.kinds.now s.args.draws.now
 
 pub write_sheet-requires : goal.write_sheet-requires
 write_sheet-requires c =
     let f = c.args in
     let p = c.requires.1 in
-    let job = job_at c in
+    let job = job_at (goal.at.write_sheet-requires c).Start in
     let m = f.plan.m in record {
       q_nonzero = (
         p.drawn.positive,
@@ -41,7 +42,7 @@ pub returns : goal.returns
 returns c =
     let f = c.args in
     let g = head_group f.head in
-    let job = job_at c in
+    let job = job_at (goal.at.returns c).Start in
     let r = c.write_records-at in
     more _ _ _ _ _ _ (length_records sha256 job g (list_of f.plan.before) f.plan.a f.plan.m job.K ∙ sym r.ensures.0) r.ensures.1 c.write_sheet.ensures
     ∙ ap (λ (x : List ℕ). written (plan_records sha256 job g f.plan ++ x) f.out.now) (from_round job g f.plan c.requires.1.new)

@@ -10,6 +10,7 @@ use Rattle.numbers.proofs.Sums.{sum_more, sum_passed}
 use Rattle.rules.specs.Records.{is_counted}
 use Rattle.jobs.specs.Job.{record_draws}
 use borrow.Author.Rules.{rules}
+use Rattle.boards.proofs.sheet.column_sum.Goals.{Then-kind-eq-COUNTED}
 use Rattle.boards.proofs.sheet.column_sum.Goals as goal
 
 pub loop-b-init : goal.loop-b-init
@@ -51,7 +52,7 @@ loop-b-preserved c =
     c.if-kind-eq-COUNTED.branch-raw
 
 pub bounds-draws-at : goal.bounds-draws-at
-bounds-draws-at c = there c.before
+bounds-draws-at c = there (goal.at.bounds-draws-at c).Then-kind-eq-COUNTED
 
 pub returns : goal.returns
 returns c = let l = c.loop-b in let e : l.b ≡ c.args.k = omega arith in c.reduce_exp.ensures ∙ rw (l.invariant.4, e)

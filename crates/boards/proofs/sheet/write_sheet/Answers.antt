@@ -9,14 +9,8 @@ use Rattle.output.specs.Written.{written}
 use Rattle.output.proofs.Laws.{more}
 use Rattle.boards.proofs.Columns.{column_is, columns_to, columns_more, sheet_whole}
 use borrow.Author.Rules.{rules}
+use Rattle.boards.proofs.sheet.write_sheet.Invariants.{ahead, columns}
 use Rattle.boards.proofs.sheet.write_sheet.Goals as goal
-
--- the draws of round m ahead of ballot b's record
-abbrev ahead : (kinds : List ℕ) (n m b : ℕ) → ℕ
-ahead kinds n m b = sum_below b (λ j. record_draws n (get_or kinds j 0) m)
-
-abbrev columns : (q n k m from : ℕ) (kinds draws counts : List ℕ) (i : ℕ) → List ℕ
-columns q n k m from kinds draws counts i = columns_to q n k (λ b. get_or kinds b 0) draws (λ b. from + ahead kinds n m b) counts i
 
 pub loop-i-init : goal.loop-i-init
 unfolding concat_below

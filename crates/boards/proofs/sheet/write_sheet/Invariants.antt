@@ -11,6 +11,13 @@ use Rattle.boards.proofs.Columns.{column_is, columns_to, columns_more, sheet_who
 use borrow.Author.Rules.{rules}
 use Rattle.boards.proofs.sheet.write_sheet.Given as goal
 
+-- the draws of round m ahead of ballot b's record
+abbrev pub ahead : (kinds : List ℕ) (n m b : ℕ) → ℕ
+ahead kinds n m b = sum_below b (λ j. record_draws n (get_or kinds j 0) m)
+
+abbrev pub columns : (q n k m from : ℕ) (kinds draws counts : List ℕ) (i : ℕ) → List ℕ
+columns q n k m from kinds draws counts i = columns_to q n k (λ b. get_or kinds b 0) draws (λ b. from + ahead kinds n m b) counts i
+
 abbrev pub invariant-loop-i : goal.invariant-loop-i
 invariant-loop-i l =
     (l.i ≤ l.n) × (length l.out ≡ length l.initial.out)

@@ -5,6 +5,7 @@ use lib.ListN.{length}
 use borrow.Author.Rules.{rules}
 use Rattle.testing.proofs.Pieces.{within}
 use Rattle.job_cases.specs.Frames.{FrameReads}
+use Rattle.job_cases.proofs.frame.read.Goals.{In-Bytes}
 use Rattle.job_cases.proofs.frame.read.Goals as goal
 
 -- the name ends within the input
@@ -26,4 +27,4 @@ pub overflow_sub-s : goal.overflow_sub-s
 overflow_sub-s c = omega (arith, name c)
 
 pub overflow_add-name : goal.overflow_add-name
-overflow_add-name c = omega (arith, name c.before)
+overflow_add-name c = omega (arith, name (goal.at.overflow_add-name c).In-Bytes)

@@ -15,12 +15,12 @@ pub returns-then-not-is_ranking : goal.returns-then-not-is_ranking
 returns-then-not-is_ranking c =
     let l = c.loop-b in
     λ job en er.
-    sym (first_found _ l.b _ (omega arith) (l.invariant.1 job en er) (rw (en, er, ← c.is_ranking.ensures) c.if-not-is_ranking.true))
+    sym (first_found _ l.b _ (omega arith) (l.invariant.1 job en er) (rw (en, er, ← c.is_ranking.ensures) c.if-not-is_ranking.true-raw))
 
 pub loop-b-preserved : goal.loop-b-preserved
 loop-b-preserved c =
     let l = c.loop-b in
-    (omega arith, λ job en er. first_passed l.b _ (l.invariant.1 job en er) (rw (en, er, ← c.is_ranking.ensures) c.if-not-is_ranking.false))
+    (omega arith, λ job en er. first_passed l.b _ (l.invariant.1 job en er) (rw (en, er, ← c.is_ranking.ensures) c.if-not-is_ranking.false-raw))
 
 pub loop-b-init : goal.loop-b-init
 loop-b-init c = (omega arith, λ job en er. first_none _)

@@ -12,11 +12,8 @@ use Rattle.count.specs.State.{Kept, standing_of}
 use Rattle.count.proofs.Picks.{sheets_many}
 use Rattle.plain.proofs.Counted.{count_goes, count_ends, far}
 use borrow.Author.Rules.{rules}
+use Rattle.plain.proofs.rounds.count.Invariants.{ranked}
 use Rattle.plain.proofs.rounds.count.Goals as goal
-
--- the counted rankings
-abbrev ranked : (rankings kinds : List ℕ) (n k : ℕ) → List (List ℕ)
-ranked rankings kinds n k = table_where k (λ b. is_counted (get_or kinds b 0)) (λ b. part rankings (b * n) n)
 
 pub loop-count-init : goal.loop-count-init
 unfolding plain_count

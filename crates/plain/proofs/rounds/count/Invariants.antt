@@ -14,6 +14,10 @@ use Rattle.plain.proofs.Counted.{count_goes, count_ends, far}
 use borrow.Author.Rules.{rules}
 use Rattle.plain.proofs.rounds.count.Given as goal
 
+-- the counted rankings
+abbrev pub ranked : (rankings kinds : List ℕ) (n k : ℕ) → List (List ℕ)
+ranked rankings kinds n k = table_where k (λ b. is_counted (get_or kinds b 0)) (λ b. part rankings (b * n) n)
+
 abbrev pub invariant-loop-count : goal.invariant-loop-count
 invariant-loop-count l =
     Kept l.count × (l.count.gone.outs + 2 ≤ l.n)

@@ -4,6 +4,7 @@ use native.Mathlib.Omega.{arith}
 use Rattle.rules.proofs.Sizes.{cells}
 use Rattle.plain.proofs.Sizes.{Later, later, draws_first, draws_later, draws_none}
 use borrow.Author.Rules.{rules}
+use Rattle.plain.proofs.rounds.record_draws.Goals.{Then-kind-eq-COUNTED, Then-m-eq0}
 use Rattle.plain.proofs.rounds.record_draws.Goals as goal
 
 few : (c : goal.Then-m-eq0) → c.args.n * c.args.n ≤ 64

@@ -18,7 +18,7 @@ loop-i-preserved c =
     let p = c.put_number4-in-loop-i.ensures in (
       omega arith,
       search rules,
-      λ o n h. answer_more f.e.0 (answers f.q f.e.0 f.t5 f.draws.now f.at) o l.i _ l.out _ refl (omega (arith, n, c.put_number4, c)) (l.invariant.2 o n h) (p ∙ rw c.response-r.ensures),
+      λ o n h. answer_more f.e.0 (answers f.q f.e.0 f.witness f.draws.now f.at) o l.i _ l.out _ refl (omega (arith, n, c.put_number4, c)) (l.invariant.2 o n h) (p ∙ rw c.response-r.ensures),
     )
 
 pub returns : goal.returns

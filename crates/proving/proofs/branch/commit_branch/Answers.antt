@@ -17,31 +17,33 @@ use Rattle.proving.proofs.Draws.{draft_near, draft_at, draft_fits, draft_low}
 use Rattle.statements.proofs.Branches.{fed_below_none, fed_below_more}
 use Rattle.proving.proofs.Branches.{branch_none, branch_more, drafted_branch}
 use borrow.Author.Rules.{rules}
+use Rattle.proving.proofs.branch.commit_branch.Goals.{After-slice_known-2-1}
 use Rattle.proving.proofs.branch.commit_branch.Goals as goal
 
 -- the nonces or responses are all there
-fits : (c : goal.After-slice_known-2-1) →
-    let f = c.args in
+fits : (c : goal.After-slice_known-2-1) → let f = (start c).args in
     (c.after_challenge-first.result + f.branch.plan.statements ≤ length f.draws.now) × (length f.draws.now * 4 < 2 ^ 64)
     × (4 + 12 * f.branch.plan.statements ≤ length f.out.now) × (length f.out.now < 2 ^ 64)
-fits c = (
-  draft_fits _ c.args.branch.plan c.args.draws.now c.requires.ready.1.drawn c.args.branch.l c.requires.l_lt_branches.0 _ c.requires.l_lt_branches.1 _ c.after_challenge-first.ensures,
-  omega (arith, c.good),
-  c.requires.l_lt_branches.2,
-  omega (arith, c.good),
-)
+fits c =
+    let s = start c in (
+      draft_fits _ s.args.branch.plan s.args.draws.now s.pre.0.1.drawn s.args.branch.l s.pre.1.0 _ s.pre.1.1 _ c.after_challenge-first.ensures,
+      omega (arith, s.good),
+      s.pre.1.2,
+      omega (arith, s.good),
+    )
 
 pub put_draft-next-requires : goal.put_draft-next-requires
-put_draft-next-requires c = (
-  simp (length-take, length-drop) (omega (arith, fits c.before.before.before.before.before, c.loop-i.invariant.1)),
-  c.requires.ready.0.p_pos,
-  draft_low _ c.args.branch.plan c.args.draws.now c.requires.ready.1.drawn c.args.branch.l c.requires.l_lt_branches.0 _ c.requires.l_lt_branches.1 _ c.first_challenge-e.ensures,
-)
+put_draft-next-requires c =
+    let s = start c in (
+      simp (length-take, length-drop) (omega (arith, fits (goal.at.put_draft-next-requires c).After-slice_known-2-1, c.loop-i.invariant.1)),
+      s.pre.0.0.p_pos,
+      draft_low _ s.args.branch.plan s.args.draws.now s.pre.0.1.drawn s.args.branch.l s.pre.1.0 _ s.pre.1.1 _ c.first_challenge-e.ensures,
+    )
 
 pub loop-i-preserved : goal.loop-i-preserved
 loop-i-preserved c =
     let l = c.loop-i in
-    let f = c.args in
+    let f = (start c).args in
     let g = parameters_of f.g.group in
     let cl = claim_of f.page.now g f.branch.plan.claim f.branch.l in
     let e = c.first_challenge-e.result.0 in
@@ -58,10 +60,11 @@ loop-i-preserved c =
 pub returns : goal.returns
 returns c =
     let l = c.loop-i in
-    let f = c.args in
+    let s = start c in
+    let f = s.args in
     let g = parameters_of f.g.group in
     let n : l.i ≡ f.branch.plan.statements = omega arith in
-    drafted_branch g (claim_of f.page.now g f.branch.plan.claim) f.branch.plan f.draws.now f.branch.l _ _ f.branch.at _ _ _ _ _ _ n c.requires.l_lt_branches.1
+    drafted_branch g (claim_of f.page.now g f.branch.plan.claim) f.branch.plan f.draws.now f.branch.l _ _ f.branch.at _ _ _ _ _ _ n s.pre.1.1
     c.first_challenge-e.ensures c.after_challenge-first.ensures
     (record { wrote = l.invariant.2 _ c.put_number4.ensures; fed = l.invariant.3 })
 
@@ -79,34 +82,34 @@ loop-i-init c = (omega arith, refl, λ o h. h ∙ branch_none _ _ _ o, λ m h. f
 
 pub claimed-s-requires : goal.claimed-s-requires
 claimed-s-requires c =
-    record {
-      ready = c.requires.ready.0;
-      within = c.requires.ready.1.ready c.args.branch.l c.loop-i.i c.requires.l_lt_branches.0 (omega arith);
+    let s = start c in record {
+      ready = s.pre.0.0;
+      within = s.pre.0.1.ready s.args.branch.l c.loop-i.i s.pre.1.0 (omega arith);
     }
 
 pub overflow_mul-place : goal.overflow_mul-place
-overflow_mul-place c = omega (arith, fits c.before.before.before)
+overflow_mul-place c = omega (arith, fits (goal.at.overflow_mul-place c).After-slice_known-2-1)
 
 pub overflow_add-place : goal.overflow_add-place
-overflow_add-place c = omega (arith, fits c.before.before.before)
+overflow_add-place c = omega (arith, fits (goal.at.overflow_add-place c).After-slice_known-2-1)
 
 pub overflow_add-r : goal.overflow_add-r
-overflow_add-r c = omega (arith, fits c.before.before.before)
+overflow_add-r c = omega (arith, fits (goal.at.overflow_add-r c).After-slice_known-2-1)
 
 pub offset_bounds-draws-first : goal.offset_bounds-draws-first
-offset_bounds-draws-first c = omega (arith, fits c.before.before.before)
+offset_bounds-draws-first c = omega (arith, fits (goal.at.offset_bounds-draws-first c).After-slice_known-2-1)
 
 pub bounds-draws-first : goal.bounds-draws-first
-bounds-draws-first c = omega (arith, fits c.before.before.before.before)
+bounds-draws-first c = omega (arith, fits (goal.at.bounds-draws-first c).After-slice_known-2-1)
 
 pub slice_bounds-put_draft-count : goal.slice_bounds-put_draft-count
-slice_bounds-put_draft-count c = omega (arith, fits c.before.before.before.before, c.loop-i.invariant.1)
+slice_bounds-put_draft-count c = omega (arith, fits (goal.at.slice_bounds-put_draft-count c).After-slice_known-2-1, c.loop-i.invariant.1)
 
 pub slice_bounds-put_draft-start : goal.slice_bounds-put_draft-start
-slice_bounds-put_draft-start c = omega (arith, fits c.before.before.before.before, c.loop-i.invariant.1)
+slice_bounds-put_draft-start c = omega (arith, fits (goal.at.slice_bounds-put_draft-start c).After-slice_known-2-1, c.loop-i.invariant.1)
 
 pub slice_bounds-put_draft-end : goal.slice_bounds-put_draft-end
-slice_bounds-put_draft-end c = omega (arith, fits c.before.before.before.before, c.loop-i.invariant.1)
+slice_bounds-put_draft-end c = omega (arith, fits (goal.at.slice_bounds-put_draft-end c).After-slice_known-2-1, c.loop-i.invariant.1)
 
 pub overflow_step-i : goal.overflow_step-i
-overflow_step-i c = omega (arith, fits c.before.before.before.before.before.before.before.before, c.loop-i-test.true)
+overflow_step-i c = omega (arith, fits (goal.at.overflow_step-i c).After-slice_known-2-1, c.loop-i-test.true)

@@ -17,11 +17,11 @@ use Rattle.rules.proofs.Sizes.{cells}
 use Rattle.statements.proofs.Lines.{line_fits}
 use Rattle.statements.proofs.Places.{line_claimed, line_stands}
 use Rattle.records.specs.Parts.{proof_at, line_good}
+use Rattle.records.proofs.ballot.lines_good.Goals.{After-line_of-line, After-number2-number, After-proof_good}
 use Rattle.records.proofs.ballot.lines_good.Goals as goal
 
 -- the line is within the matrix, which is small
-small : (c : goal.After-line_of-line) →
-    let n = c.args.h.n in
+small : (c : goal.After-line_of-line) → let n = c.args.h.n in
     let line = c.line_of-line.result in (line.start < n * n) × (line.stride ≤ n * n) × (n * n ≤ 64)
 small c =
     let w = line_fits c.args.h.n c.loop-t.t (omega arith) in
@@ -38,8 +38,7 @@ proof_good-requires c =
     }
 
 -- what a proof's check says of its line
-checked : (c : goal.After-proof_good) →
-    let a = c.args in
+checked : (c : goal.After-proof_good) → let a = c.args in
     c.proof_good.result ≡ line_good a.board.now a.h a.at c.loop-t.t
 checked c =
     let a = c.args in
@@ -50,17 +49,16 @@ checked c =
     (rw (c.line_of-line.ensures.0, c.line_of-line.ensures.1) (line_claimed a.board.now (parameters_of a.h.setup.group) a.h.n (a.at + 5) t))
 
 pub returns-then-not-proof_good : goal.returns-then-not-proof_good
-returns-then-not-proof_good c = sym (all_fails _ c.loop-t.t _ (omega arith) (sym (checked c.before) ∙ not-true _ c.if-not-proof_good.true))
+returns-then-not-proof_good c = sym (all_fails _ c.loop-t.t _ (omega arith) (sym (checked (goal.at.returns-then-not-proof_good c).After-proof_good) ∙ c.if-not-proof_good.true))
 
 pub loop-t-preserved : goal.loop-t-preserved
-loop-t-preserved c = (omega arith, all_more _ _ c.loop-t.invariant.1 (sym (checked c.before) ∙ not-false _ c.if-not-proof_good.false))
+loop-t-preserved c = (omega arith, all_more _ _ c.loop-t.invariant.1 (sym (checked (goal.at.loop-t-preserved c).After-proof_good) ∙ c.if-not-proof_good.false))
 
 pub returns : goal.returns
 returns c = sym (all_end _ c.loop-t.t _ c.loop-t.invariant.0 (omega arith) c.loop-t.invariant.1)
 
 -- the board is no longer than a number tells, and the matrix is small
-long : (c : goal.After-number2-number) →
-    let a = c.args in (length a.board.now < 2 ^ 64) × (a.h.n * a.h.n ≤ 64)
+long : (c : goal.After-number2-number) → let a = c.args in (length a.board.now < 2 ^ 64) × (a.h.n * a.h.n ≤ 64)
 long c = (omega (arith, c.well_formed), cells _ c.requires.0.high)
 
 pub overflow_add-at : goal.overflow_add-at
@@ -88,25 +86,25 @@ pub loop-t-init : goal.loop-t-init
 loop-t-init c = (omega arith, all_none _)
 
 pub overflow_add-entries : goal.overflow_add-entries
-overflow_add-entries c = omega (arith, long c.before.before)
+overflow_add-entries c = omega (arith, long (goal.at.overflow_add-entries c).After-number2-number)
 
 pub overflow_mul-shape : goal.overflow_mul-shape
-overflow_mul-shape c = omega (arith, long c.before.before.before)
+overflow_mul-shape c = omega (arith, long (goal.at.overflow_mul-shape c).After-number2-number)
 
 pub overflow_add-shape : goal.overflow_add-shape
-overflow_add-shape c = omega (arith, long c.before.before.before)
+overflow_add-shape c = omega (arith, long (goal.at.overflow_add-shape c).After-number2-number)
 
 pub line_of-line-requires : goal.line_of-line-requires
-line_of-line-requires c = (omega arith, omega (arith, long c.before.before.before))
+line_of-line-requires c = (omega arith, omega (arith, long (goal.at.line_of-line-requires c).After-number2-number))
 
 pub overflow_add-claim : goal.overflow_add-claim
-overflow_add-claim c = omega (arith, long c.before.before.before.before)
+overflow_add-claim c = omega (arith, long (goal.at.overflow_add-claim c).After-number2-number)
 
 pub overflow_mul-claim : goal.overflow_mul-claim
-overflow_mul-claim c = omega (arith, small c.before)
+overflow_mul-claim c = omega (arith, small (goal.at.overflow_mul-claim c).After-line_of-line)
 
 pub overflow_add-claim-in-loop-t : goal.overflow_add-claim-in-loop-t
-overflow_add-claim-in-loop-t c = omega (arith, small c.before, long c.before.before.before.before.before)
+overflow_add-claim-in-loop-t c = omega (arith, small (goal.at.overflow_add-claim-in-loop-t c).After-line_of-line, long (goal.at.overflow_add-claim-in-loop-t c).After-number2-number)
 
 pub overflow_mul-claim-in-loop-t : goal.overflow_mul-claim-in-loop-t
-overflow_mul-claim-in-loop-t c = omega (arith, small c.before.before)
+overflow_mul-claim-in-loop-t c = omega (arith, small (goal.at.overflow_mul-claim-in-loop-t c).After-line_of-line)

@@ -9,15 +9,14 @@ use Rattle.frames.specs.declared.Fault.TheVariants.{Sound}
 use Rattle.frames.specs.Framed.{Framed, BallotFramed}
 use Rattle.records.proofs.SevenTests.{wrong_frame, wrong_field, wrong_proof, wrong_opening, all_sound}
 use Rattle.records.proofs.BallotTables.{ballot_table}
+use Rattle.records.proofs.ballot.read_ballot.Goals.{After-kind-kind, In_default}
 use Rattle.records.proofs.ballot.read_ballot.Goals as goal
 
 -- the frame is sound, and the record on the board
-framed : (c : goal.In_default) →
-    let a = c.args in BallotFramed a.board.now a.at a.h.n a.number Sound
+framed : (c : goal.In_default) → let a = c.args in BallotFramed a.board.now a.at a.h.n a.number Sound
 framed c = rw c.in_default.is at c.ballot_frame-framed.ensures
 
-fits : (c : goal.In_default) →
-    let a = c.args in a.at + ballot_length a.h.n c.kind-kind.result ≤ length a.board.now
+fits : (c : goal.In_default) → let a = c.args in a.at + ballot_length a.h.n c.kind-kind.result ≤ length a.board.now
 unfolding BallotFramed Framed
 fits c = rw c.kind-kind.ensures (framed c).0.0
 
@@ -25,7 +24,7 @@ some : (c : goal.After-kind-kind) → 0 < c.args.h.n
 some c = omega (arith, c.requires.0.low)
 
 pub returns-in-Refused : goal.returns-in-Refused
-returns-in-Refused c = wrong_frame (ballot_table _ c.args.h _ (some c.before.before.before.before.before) _) _ (rw c.in-Refused.is at c.ballot_frame-framed.ensures)
+returns-in-Refused c = wrong_frame (ballot_table _ c.args.h _ (some (goal.at.returns-in-Refused c).After-kind-kind) _) _ (rw c.in-Refused.is at c.ballot_frame-framed.ensures)
 
 -- what the fields and the proofs were found to be
 module _ (c : tie.Else1) where
@@ -37,8 +36,8 @@ module _ (c : tie.Else1) where
 
 pub returns-then-not-ballot_fields : goal.returns-then-not-ballot_fields
 returns-then-not-ballot_fields c =
-    wrong_field (ballot_table _ c.args.h _ (some c.before.before.before.before.before.before) _) (framed c.before.before)
-    (rw (← c.kind-kind.ensures) (sym c.ballot_fields.ensures ∙ not-true _ c.if-not-ballot_fields.true))
+    wrong_field (ballot_table _ c.args.h _ (some (goal.at.returns-then-not-ballot_fields c).After-kind-kind) _) (framed (goal.at.returns-then-not-ballot_fields c).In_default)
+    (rw (← c.kind-kind.ensures) (sym c.ballot_fields.ensures ∙ c.if-not-ballot_fields.true))
 
 pub ballot_proofs-requires : goal.ballot_proofs-requires
 ballot_proofs-requires c = ((kind c).before.before.requires.0, omega (arith, fits (told c)))
@@ -47,7 +46,7 @@ pub returns-then-not-ballot_proofs : goal.returns-then-not-ballot_proofs
 returns-then-not-ballot_proofs c =
     let k = kind c in
     wrong_proof (ballot_table _ k.before.before.args.h _ (some k) _) (framed (told c))
-    (rw (← k.kind.ensures) (sym c.ballot_fields.ensures ∙ not-false _ c.if-not-ballot_fields.false)) (sym c.ballot_proofs.ensures ∙ not-true _ c.if-not-ballot_proofs.true)
+    (rw (← k.kind.ensures) (sym c.ballot_fields.ensures ∙ c.if-not-ballot_fields.false)) (sym c.ballot_proofs.ensures ∙ c.if-not-ballot_proofs.true)
 
 pub shown_good-requires : goal.shown_good-requires
 shown_good-requires c = ((kind c).before.before.requires.0, fits (told c))
@@ -56,17 +55,17 @@ pub returns-then-not-shown_good : goal.returns-then-not-shown_good
 returns-then-not-shown_good c =
     let k = kind c in
     wrong_opening (ballot_table _ k.before.before.args.h _ (some k) _) (framed (told c))
-    (rw (← k.kind.ensures) (sym c.ballot_fields.ensures ∙ not-false _ c.if-not-ballot_fields.false))
-    (sym c.ballot_proofs.ensures ∙ not-false _ c.if-not-ballot_proofs.false)
-    (rw (← k.kind.ensures) (sym c.shown_good.ensures ∙ not-true _ c.if-not-shown_good.true))
+    (rw (← k.kind.ensures) (sym c.ballot_fields.ensures ∙ c.if-not-ballot_fields.false))
+    (sym c.ballot_proofs.ensures ∙ c.if-not-ballot_proofs.false)
+    (rw (← k.kind.ensures) (sym c.shown_good.ensures ∙ c.if-not-shown_good.true))
 
 pub returns : goal.returns
 returns c =
     let k = kind c in
     all_sound (ballot_table _ k.before.before.args.h _ (some k) _) (framed (told c))
-    (rw (← k.kind.ensures) (sym c.ballot_fields.ensures ∙ not-false _ c.if-not-ballot_fields.false))
-    (sym c.ballot_proofs.ensures ∙ not-false _ c.if-not-ballot_proofs.false)
-    (rw (← k.kind.ensures) (sym c.shown_good.ensures ∙ not-false _ c.if-not-shown_good.false))
+    (rw (← k.kind.ensures) (sym c.ballot_fields.ensures ∙ c.if-not-ballot_fields.false))
+    (sym c.ballot_proofs.ensures ∙ c.if-not-ballot_proofs.false)
+    (rw (← k.kind.ensures) (sym c.shown_good.ensures ∙ c.if-not-shown_good.false))
     _ (omega (arith, (told c).before.before.before.ballot_length.ensures.0, ap (λ (x : ℕ). ballot_length k.before.before.args.h.n x) k.kind.ensures))
 
 pub ballot_fields-requires : goal.ballot_fields-requires

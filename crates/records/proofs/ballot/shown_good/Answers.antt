@@ -6,6 +6,7 @@ use borrow.Author.Rules.{rules}
 use borrow.Author.Tests.{eq-eqb, ne_eqb, not-true, not-false}
 use Rattle.rules.specs.Records.{counted_length, audit_length}
 use Rattle.layout.proofs.Rounds.{length_audited}
+use Rattle.records.proofs.ballot.shown_good.Goals.{Else-kind-ne-AUDITED}
 use Rattle.records.proofs.ballot.shown_good.Goals as goal
 
 -- an audited record is on the board with what it shows
@@ -13,24 +14,24 @@ fits : (c : goal.Else-kind-ne-AUDITED) → let a = c.args in a.at + (counted_len
 fits c = let a = c.args in rw (length_audited a.h.n a.kind c.if-kind-ne-AUDITED.false) c.requires.1
 
 pub is_ranking-requires : goal.is_ranking-requires
-is_ranking-requires c = omega (arith, fits c.before, c.counted_length.ensures.0)
+is_ranking-requires c = omega (arith, fits (goal.at.is_ranking-requires c).Else-kind-ne-AUDITED, c.counted_length.ensures.0)
 
 pub matrix_opens-requires : goal.matrix_opens-requires
 matrix_opens-requires c =
     let pre = c.requires.0 in
-    (pre.ready.p_pos, omega (arith, pre.low), pre.high, omega (arith, fits c.before.before.before.before), omega (arith, fits c.before.before.before.before, c.counted_length.ensures.0))
+    (pre.ready.p_pos, omega (arith, pre.low), pre.high, omega (arith, fits (goal.at.matrix_opens-requires c).Else-kind-ne-AUDITED), omega (arith, fits (goal.at.matrix_opens-requires c).Else-kind-ne-AUDITED, c.counted_length.ensures.0))
 
 pub returns-then-kind-ne-AUDITED : goal.returns-then-kind-ne-AUDITED
 returns-then-kind-ne-AUDITED c = rw (ne_eqb _ _ c.if-kind-ne-AUDITED.true)
 
 pub returns-then-not-is_ranking : goal.returns-then-not-is_ranking
-returns-then-not-is_ranking c = rw (eq-eqb _ _ c.if-kind-ne-AUDITED.false, ← c.counted_length.ensures.0, sym c.is_ranking.ensures ∙ not-true _ c.if-not-is_ranking.true)
+returns-then-not-is_ranking c = rw (eq-eqb _ _ c.if-kind-ne-AUDITED.false, ← c.counted_length.ensures.0, sym c.is_ranking.ensures ∙ c.if-not-is_ranking.true)
 
 pub returns : goal.returns
 returns c =
     rw (
       eq-eqb _ _ c.if-kind-ne-AUDITED.false,
       ← c.counted_length.ensures.0,
-      sym c.is_ranking.ensures ∙ not-false _ c.if-not-is_ranking.false,
+      sym c.is_ranking.ensures ∙ c.if-not-is_ranking.false,
     )
     c.matrix_opens.ensures

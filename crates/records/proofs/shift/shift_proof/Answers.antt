@@ -6,11 +6,11 @@ use Rattle.sha256.proofs.Feed.{fed_more}
 use Rattle.rules.specs.Shift.{shift_context}
 use Rattle.statements.specs.Claims.{claim_of, Within}
 use Rattle.statements.proofs.Lines.{row_below}
+use Rattle.records.proofs.shift.shift_proof.Goals.{After-group-1}
 use Rattle.records.proofs.shift.shift_proof.Goals as goal
 
 -- the table has room for the matrix before
-small : (c : goal.After-group-1) →
-    let a = c.args in ((a.h.n - a.m) * a.h.n + a.h.n ≤ a.h.n * a.h.n) × (a.h.n * a.h.n ≤ 8 * a.h.n) × (a.h.n ≤ 8)
+small : (c : goal.After-group-1) → let a = c.args in ((a.h.n - a.m) * a.h.n + a.h.n ≤ a.h.n * a.h.n) × (a.h.n * a.h.n ≤ 8 * a.h.n) × (a.h.n ≤ 8)
 small c =
     let a = c.args in
     let pre = c.requires.header_known in
@@ -35,7 +35,7 @@ proof_good-requires c =
             statement = hi;
             earlier = pre.1.0;
             later = omega arith;
-            long_enough = omega (arith, table.long, small c.before.before.before.before.before.before);
+            long_enough = omega (arith, table.long, small (goal.at.proof_good-requires c).After-group-1);
             inverted = λ u b. table.inverted u (omega arith);
           };
     }

@@ -5,6 +5,7 @@ use Rattle.rules.specs.Sentences.{bytes, decimal}
 use Rattle.sentences.specs.Pieces.{Put}
 use Rattle.rules.proofs.Lines.{opening_long}
 use Rattle.sentences.proofs.Puts.{◌then◌}
+use Rattle.sentences.proofs.parts.put_opening.Goals.{After-put-colon}
 use Rattle.sentences.proofs.parts.put_opening.Goals as goal
 
 pub put-number-requires : goal.put-number-requires
@@ -22,9 +23,9 @@ number c = rw (← c.low16.ensures) c.put-colon.ensures
 pub put-requires : goal.put-requires
 put-requires c =
     let p = c.put-number in
-    let q = number c.before.before.before.before.before in
+    let q = number (goal.at.put-requires c).After-put-colon in
     omega (arith, opening_long c.args.m, c.requires.1, p.ensures.ends, p.ensures.long, q.ends, q.long)
 
 pub returns : goal.returns
 unfolding bytes
-returns c = c.put-number.ensures then number c.before.before.before.before.before.before.before.before then c.put.ensures
+returns c = c.put-number.ensures then number (goal.at.returns c).After-put-colon then c.put.ensures

@@ -18,6 +18,7 @@ use Rattle.rules.specs.Bytes.{number8}
 use Rattle.rules.specs.Proofs.{Context, context_bytes, proof_holds, branch_at, statement_at}
 use Rattle.statements.specs.Claims.{claim_of}
 use Rattle.statements.proofs.Branches.{here, branch_here, piece, pieces, challenges, within, branch_within, sum_more, fails_there, sums_up, fed_below_none, fed_below_more, fed_branch}
+use Rattle.statements.proofs.proof.proof_holds.Goals.{After-feed_statement-h, After-statement_holds, In-branches, In-loop-i, Left-branches}
 use Rattle.statements.proofs.proof.proof_holds.Goals as goal
 
 pub branches-init : goal.branches-init
@@ -27,8 +28,7 @@ branches-init c =
     (omega arith, refl, all_none _, sym (zero-mod a.g.group.q), λ m f. fed_below_none _ m _ f)
 
 -- the branch is on the board, and so is the statement
-branch_fits : (c : goal.In-branches) →
-    let a = c.args in
+branch_fits : (c : goal.In-branches) → let a = c.args in
     (branch_at a.shape.at a.shape.statements c.branches.l + (4 + 12 * a.shape.statements) ≤ length a.board.now) ×
     (length a.board.now < 2 ^ 64)
 branch_fits c =
@@ -38,8 +38,7 @@ branch_fits c =
       omega (arith, c.good),
     )
 
-fits : (c : goal.In-loop-i) →
-    let a = c.args in
+fits : (c : goal.In-loop-i) → let a = c.args in
     (statement_at a.shape.at a.shape.statements c.branches.l c.loop-i.i + 12 ≤ length
     a.board.now) × (length a.board.now < 2 ^ 64)
 fits c =
@@ -60,8 +59,7 @@ claimed-st-requires c =
     }
 
 -- what the callees say, at the statement's number
-this : (c : goal.After-statement_holds) →
-    let a = c.args in
+this : (c : goal.After-statement_holds) → let a = c.args in
     c.statement_holds.result
     ≡ here a.board.now a.g.group.p a.bases.first.0 a.bases.second.0 (claim_of a.board.now (parameters_of a.g.group) a.claim) a.shape.at
     a.shape.statements
@@ -78,8 +76,7 @@ this c =
     c.statement_holds.ensures
 
 -- and what is fed
-said : (c : goal.After-feed_statement-h) →
-    let a = c.args in
+said : (c : goal.After-feed_statement-h) → let a = c.args in
     let o = c.branches in
     let t = c.loop-i in
     (m : List ℕ) → Fed t.h m →
@@ -95,7 +92,7 @@ loop-i-preserved c =
     let t = c.loop-i in (
       omega (arith, c.loop-i-test.true),
       t.invariant.1,
-      all_more _ _ t.invariant.2 (sym (this c.before.before.before.before.before.before) ∙ not-false _ c.if-not-statement_holds.false),
+      all_more _ _ t.invariant.2 (sym (this (goal.at.loop-i-preserved c).After-statement_holds) ∙ c.if-not-statement_holds.false),
       λ m f. fed_below_more (piece a.board.now (claim_of a.board.now (parameters_of a.g.group) a.claim) a.shape.at a.shape.statements o.l) t.i m c.feed_statement-h.result (said c _ (t.invariant.3 m f)),
     )
 
@@ -128,13 +125,13 @@ record Done (c : tie.Left-branches invariant_loop decreases_loop invariant_branc
       (m : List ℕ) → Fed a.prefix m → Fed c.branches_test.h (m ++ concat_below a.shape.branches (pieces a.board.now (claim_of a.board.now (parameters_of a.g.group) a.claim) a.shape.at a.shape.statements))
 
 -- where the ways out of the loops meet
-after : (c : goal.Left-branches) →
-    let a = c.args in
+after : (c : goal.Left-branches) → let a = c.args in
     (c.branches-test.type_inv ≡ true → Done c)
     × (c.branches-test.type_inv ≡ false → (label : List ℕ) (k : Context) →
     false ≡ proof_holds a.board.now a.shape.at a.shape.branches a.shape.statements sha256 label k a.g.group.p a.g.group.q
     a.bases.first.0 a.bases.second.0 (claim_of a.board.now (parameters_of a.g.group) a.claim))
 after c =
+    let this : (let a = c.args in c.statement_holds.result ≡ here a.board.now a.g.group.p a.bases.first.0 a.bases.second.0 (claim_of a.board.now (parameters_of a.g.group) a.claim) a.shape.at a.shape.statements c.branches.l c.loop.i) = let shown = c.shown_at.ensures in rw (← c.claimed.ensures, ← shown.0, ← shown.1, ← shown.2, ← c.as_exponent.ensures) c.statement_holds.ensures in
     let a = c.args in
     let o = c.branches in
     ⊎_elim
@@ -174,7 +171,7 @@ after c =
 pub returns : goal.returns
 returns c =
     let a = c.args in
-    let done = (after c.before.before.before.before.before.before).0 (not-false _ c.if-not-ok.false) in
+    let done = (after (goal.at.returns c).Left-branches).0 (c.if-not-ok.false) in
     sums_up a.board.now label k a.g.group.p a.g.group.q a.bases.first.0 a.bases.second.0
     (claim_of a.board.now (parameters_of a.g.group) a.claim)
     a.shape.at a.shape.branches a.shape.statements _ _ done.all done.sum
@@ -200,16 +197,16 @@ pub loop-i-init : goal.loop-i-init
 loop-i-init c = let o = c.branches in (omega arith, o.invariant.1, all_none _, λ m f. fed_below_none _ m _ f)
 
 pub overflow_add-from-in-loop-i : goal.overflow_add-from-in-loop-i
-overflow_add-from-in-loop-i c = omega (arith, fits c.before)
+overflow_add-from-in-loop-i c = omega (arith, fits (goal.at.overflow_add-from-in-loop-i c).In-loop-i)
 
 pub overflow_mul-i : goal.overflow_mul-i
-overflow_mul-i c = omega (arith, fits c.before)
+overflow_mul-i c = omega (arith, fits (goal.at.overflow_mul-i c).In-loop-i)
 
 pub overflow_add-from-in-loop-i-2 : goal.overflow_add-from-in-loop-i-2
-overflow_add-from-in-loop-i-2 c = omega (arith, fits c.before)
+overflow_add-from-in-loop-i-2 c = omega (arith, fits (goal.at.overflow_add-from-in-loop-i-2 c).In-loop-i)
 
 pub shown_at-shown-requires : goal.shown_at-shown-requires
-shown_at-shown-requires c = omega (arith, fits c.before)
+shown_at-shown-requires c = omega (arith, fits (goal.at.shown_at-shown-requires c).In-loop-i)
 
 pub statement_holds-requires : goal.statement_holds-requires
 statement_holds-requires c = c.requires.ready.p_pos
@@ -218,4 +215,4 @@ pub overflow_step-i : goal.overflow_step-i
 overflow_step-i c = omega (arith, c.good, c.loop-i-test.true)
 
 pub returns-then-not-ok : goal.returns-then-not-ok
-returns-then-not-ok c = (after c.before).1 (not-true _ c.if-not-ok.true) label k
+returns-then-not-ok c = (after (goal.at.returns-then-not-ok c).Left-branches).1 (c.if-not-ok.true) label k

@@ -8,11 +8,11 @@ use Rattle.fields.proofs.Values.{exponent_value, exponent_refused}
 use Rattle.rules.specs.Bytes.{number4}
 use Rattle.statements.specs.Walks.{statement_fields}
 use Rattle.statements.proofs.Reading.{Walked, walked_none, walked_more, walked_bad, walked_end}
+use Rattle.statements.proofs.walks.branch_fields.Goals.{In-Value}
 use Rattle.statements.proofs.walks.branch_fields.Goals as goal
 
 -- the challenge, read
-first : (c : goal.In-Value) →
-    let a = c.args in (ltb (number4 a.board.now a.at) a.q ≡ true) ×
+first : (c : goal.In-Value) → let a = c.args in (ltb (number4 a.board.now a.at) a.q ≡ true) ×
     (c.in-Value.first ≡ a.at + 4)
 first c =
     let a = c.args in
@@ -29,7 +29,7 @@ returns-in_default-statement_fields c =
     let a = c.args in
     let l = c.loop-i in
     rw (
-      (first c.before.before.before.before.before).0,
+      (first (goal.at.returns-in_default-statement_fields c).In-Value).0,
       walked_bad (λ x. statement_fields a.board.now x a.p a.q) (λ i. a.at + 4 + 12 * i) l.invariant.1 12
           c.loop-i-test.true
           (sym c.statement_fields.ensures ∙ c.in_default-statement_fields.is),
@@ -49,7 +49,7 @@ returns c =
     let w = walked_end (λ x. statement_fields a.board.now x a.p a.q) (λ i. a.at + 4 + 12 * i) l.invariant.1 l.invariant.0 c.loop-i-test.false
     in
     let e : l.place ≡ a.at + (4 + 12 * a.statements) = omega (arith, w.1) in
-    rw ((first c.before.before).0, w.0, e)
+    rw ((first (goal.at.returns c).In-Value).0, w.0, e)
 
 pub loop-i-init : goal.loop-i-init
 loop-i-init c = (omega arith, walked_none _ _ (omega (arith, (first c).1)))

@@ -5,11 +5,11 @@ use borrow.Author.Rules.{rules}
 use Rattle.statements.specs.Walks.{walk_if, pair_fields}
 use Rattle.statements.specs.declared.walks.Walk.TheVariants.{To}
 use Rattle.statements.proofs.Reading.{walk_to, commitments_bad, response_bad, response_good}
+use Rattle.statements.proofs.walks.statement_fields.Goals.{In-To}
 use Rattle.statements.proofs.walks.statement_fields.Goals as goal
 
 -- the commitments, walked
-first : (c : goal.In-To) →
-    let a = c.args in
+first : (c : goal.In-To) → let a = c.args in
     walk_if (pair_fields a.board.now a.at a.p a.q) (a.at + 8) ≡ To c.in-To.response
 first c = sym c.pair_fields.ensures ∙ c.in-To.is
 
@@ -27,11 +27,11 @@ exponent-requires c =
 pub returns-in_default-exponent : goal.returns-in_default-exponent
 returns-in_default-exponent c =
     let a = c.args in
-    response_bad a.board.now a.at a.p a.q (first c.before.before.before)
+    response_bad a.board.now a.at a.p a.q (first (goal.at.returns-in_default-exponent c).In-To)
     (sym c.exponent.ensures ∙ c.in_default-exponent.is)
 
 pub returns : goal.returns
 returns c =
     let a = c.args in
-    response_good a.board.now a.at a.p a.q (first c.before.before.before.before)
+    response_good a.board.now a.at a.p a.q (first (goal.at.returns c).In-To)
     (sym c.exponent.ensures ∙ c.in-Value.is)

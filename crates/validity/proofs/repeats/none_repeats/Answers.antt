@@ -12,10 +12,9 @@ use Rattle.jobs.specs.Write.{different}
 use Rattle.jobs.proofs.Draws.{secrets_within, draws_start, draws_step, draws_end, draws_among}
 use Rattle.validity.proofs.Walk.{record_good, round_good, repeats}
 use borrow.Author.Rules.{rules}
+use Rattle.validity.proofs.repeats.none_repeats.Invariants.{kind_at}
+use Rattle.validity.proofs.repeats.none_repeats.Goals.{After-all_different, After-record_draws-at, After-record_secrets}
 use Rattle.validity.proofs.repeats.none_repeats.Goals as goal
-
-abbrev kind_at : (kinds : List ℕ) (i : ℕ) → ℕ
-kind_at kinds i = get_or kinds i 0
 
 pub loop-m-init : goal.loop-m-init
 unfolding round_draws
@@ -28,8 +27,7 @@ loop-b-init c =
     (omega arith, l.invariant.1 ∙ sym (draws_start f.n (kind_at f.kinds.now) f.k l.m), all_none _)
 
 -- how many x the record has
-secrets_told : (c : goal.After-record_secrets) →
-    let f = c.args in
+secrets_told : (c : goal.After-record_secrets) → let f = c.args in
     let l = c.loop-m in
     c.record_secrets.result ≡ record_secrets f.n (kind_at f.kinds.now c.loop-b.b) l.m
 secrets_told c = c.record_secrets.ensures.0 ∙ rw c.wide-kind.ensures
@@ -51,25 +49,24 @@ all_different-requires c =
       ),
     )
 
-told : (c : goal.After-all_different) →
-    let f = c.args in
+told : (c : goal.After-all_different) → let f = c.args in
     let l = c.loop-m in
     c.all_different.result ≡ record_good f.draws.now f.n (kind_at f.kinds.now) f.k l.m c.loop-b.b
 told c =
+    let secrets_told : (let f = c.args in let l = c.loop-m in c.record_secrets.result ≡ record_secrets f.n (kind_at f.kinds.now c.loop-b.b) l.m) = c.record_secrets.ensures.0 ∙ rw c.wide-kind.ensures in
     let f = c.args in
     let i = c.loop-b in
-    c.all_different.ensures ∙ (λ j. different f.draws.now (i.invariant.1 j) (secrets_told c.before j))
+    c.all_different.ensures ∙ (λ j. different f.draws.now (i.invariant.1 j) (secrets_told j))
 
 pub returns-then-not-all_different : goal.returns-then-not-all_different
 returns-then-not-all_different c =
     let f = c.args in
     let l = c.loop-m in
     let i = c.loop-b in
-    sym (repeats f.draws.now f.n (kind_at f.kinds.now) f.k f.rounds l.m i.b (omega arith) (omega arith) (sym (told c.before) ∙ not-true _ c.if-not-all_different.true))
+    sym (repeats f.draws.now f.n (kind_at f.kinds.now) f.k f.rounds l.m i.b (omega arith) (omega arith) (sym (told (goal.at.returns-then-not-all_different c).After-all_different) ∙ c.if-not-all_different.true))
 
 -- one record more
-drawn : (c : goal.After-record_draws-at) →
-    let f = c.args in
+drawn : (c : goal.After-record_draws-at) → let f = c.args in
     let l = c.loop-m in
     c.record_draws-at.result ≡ record_draws f.n (kind_at f.kinds.now c.loop-b.b) l.m
 drawn c = c.record_draws-at.ensures.0 ∙ rw c.wide-kind.ensures
@@ -88,7 +85,7 @@ loop-b-preserved c =
     let i = c.loop-b in (
       omega arith,
       omega (arith, drawn c, i.invariant.1, draws_step f.n (kind_at f.kinds.now) f.k l.m i.b),
-      all_more i.b _ i.invariant.2 (sym (told c.before.before) ∙ not-false _ c.if-not-all_different.false),
+      all_more i.b _ i.invariant.2 (sym (told (goal.at.loop-b-preserved c).After-all_different) ∙ c.if-not-all_different.false),
     )
 
 pub loop-m-preserved : goal.loop-m-preserved

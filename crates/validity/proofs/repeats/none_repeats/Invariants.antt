@@ -14,6 +14,9 @@ use Rattle.validity.proofs.Walk.{record_good, round_good, repeats}
 use borrow.Author.Rules.{rules}
 use Rattle.validity.proofs.repeats.none_repeats.Given as goal
 
+abbrev pub kind_at : (kinds : List ℕ) (i : ℕ) → ℕ
+kind_at kinds i = get_or kinds i 0
+
 abbrev pub invariant-loop-b : goal.invariant-loop-b
 invariant-loop-b l = (l.b ≤ l.k) × (l.at ≡ draws_at l.n (kind_at l.kinds) l.k l.m l.b) × (all_below l.b (record_good l.draws l.n (kind_at l.kinds) l.k l.m) ≡ true)
 

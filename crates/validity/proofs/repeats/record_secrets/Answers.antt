@@ -3,6 +3,7 @@ use native.Mathlib.Omega.{arith}
 use Rattle.rules.proofs.Sizes.{few_pairs}
 use Rattle.validity.proofs.Walk.{few_secrets}
 use borrow.Author.Rules.{rules}
+use Rattle.validity.proofs.repeats.record_secrets.Goals.{After-records_of}
 use Rattle.validity.proofs.repeats.record_secrets.Goals as goal
 
 pairs : (c : goal.After-records_of) → let f = c.args in (f.n - f.m) * f.n ≤ 64
