@@ -10,7 +10,7 @@ use Rattle.group.specs.Elements.{Parameters}
 use Rattle.rules.specs.Bytes.{number2, part}
 use Rattle.rules.specs.Group.{orders, generators}
 use Rattle.rules.specs.Records.{has_mark, header_length}
-use Rattle.rules.specs.Tests.{first_fault, ◌orElse◌}
+use Rattle.rules.specs.Tests.{first_fault, ◌or_else◌}
 use Rattle.rules.specs.Header.{Header, header, header_fault, sizes, limits, counter_field}
 use Rattle.rules.specs.declared.Model.{Model}
 

@@ -5,7 +5,7 @@ use mathlib.Core.Bool.{Bool, true, false}
 use mathlib.Core.List.{List, [], ◌∷◌, ◌++◌}
 use lib.ListN.{length}
 use borrow.Author.Tests.{le-leb}
-use Rattle.rules.specs.Tests.{first_fault, ◌orElse◌, frame}
+use Rattle.rules.specs.Tests.{first_fault, ◌or_else◌, frame}
 use Rattle.rules.specs.declared.Refusal.{Refusal}
 use Rattle.rules.specs.declared.Refusal.TheVariants.{Field, Proof}
 use Rattle.frames.specs.declared.Fault.TheVariants.{Sound, Refused}

@@ -7,7 +7,7 @@ use lib.ListN.{length}
 use borrow.Author.Tests.{le-leb}
 use Rattle.rules.specs.Bytes.{number2}
 use Rattle.rules.specs.Records.{BA, kind_at, ballot_length}
-use Rattle.rules.specs.Tests.{first_fault, ◌orElse◌, frame}
+use Rattle.rules.specs.Tests.{first_fault, ◌or_else◌, frame}
 use Rattle.rules.specs.declared.Refusal.{Refusal}
 use Rattle.rules.specs.declared.Refusal.TheVariants.{Field, Proof, Opening}
 use Rattle.frames.specs.declared.Fault.TheVariants.{Sound, Refused}

@@ -10,7 +10,7 @@ use borrow.Author.Tests.{eq-eqb, ne_eqb}
 use Rattle.numbers.specs.Below.{sum_below}
 use Rattle.sha256.specs.Message.{sha256}
 use Rattle.rules.specs.Records.{kind_at, is_counted, ballot_length, shift_length, record_length}
-use Rattle.rules.specs.Tests.{first_fault, ◌orElse◌}
+use Rattle.rules.specs.Tests.{first_fault, ◌or_else◌}
 use Rattle.rules.specs.Header.{Header}
 use Rattle.rules.specs.Ballot.{ballot_tests, ballot_fault}
 use Rattle.rules.specs.Shift.{shift_fault}

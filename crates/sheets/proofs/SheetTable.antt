@@ -18,7 +18,7 @@ use Rattle.group.specs.Elements.{parameters_of}
 use Rattle.rules.specs.Bytes.{number2}
 use Rattle.rules.specs.Records.{RT, sheet_length}
 use Rattle.rules.specs.Count.{table}
-use Rattle.rules.specs.Tests.{Test, first_fault, ◌orElse◌}
+use Rattle.rules.specs.Tests.{Test, first_fault, ◌or_else◌}
 use Rattle.rules.specs.Audit.{pair_opens}
 use Rattle.rules.specs.Sheet as said
 use Rattle.rules.specs.Sheet.{out_at, count_at, exponent_at, sheet_fields, tallies, sheet_fault}

@@ -15,7 +15,7 @@ use Rattle.numbers.proofs.Sums.{some_picked}
 use Rattle.group.specs.Elements.{Parameters}
 use Rattle.rules.specs.Claims.{Matrix}
 use Rattle.rules.specs.Proofs.{Statement, Context, statement_holds, proof_fields, proof_holds}
-use Rattle.rules.specs.Tests.{Test, first_fault, ◌orElse◌}
+use Rattle.rules.specs.Tests.{Test, first_fault, ◌or_else◌}
 use Rattle.rules.specs.Header.{Header, header, header_fault}
 use Rattle.rules.specs.Records.{kind_at, is_counted, is_audited}
 use Rattle.rules.specs.Audit.{exponents_good, opens_as_shown}

@@ -9,6 +9,7 @@ use Rattle.numbers.specs.Below.{sum_below}
 use Rattle.numbers.proofs.Sums.{sum_more, sum_passed}
 use Rattle.rules.specs.Records.{is_counted}
 use borrow.Author.Rules.{rules}
+use Rattle.plain.proofs.kinds.counted.Goals.{else-wide-eq-COUNTED, then-wide-eq-COUNTED}
 use Rattle.plain.proofs.kinds.counted.Goals as goal
 
 pub loop-b-init : goal.loop-b-init
@@ -20,10 +21,10 @@ loop-b-preserved c =
     let l = c.loop-b in
     let kinds = c.args.kinds.now in
     let told = c.wide.ensures in
-    ⊎_elim
-    (λ w. (omega arith, rw w.1 (omega arith), w.1 ∙ sum_more l.b l.c 1 _ l.invariant.2 (rw (eq-eqb (get_or kinds l.b 0) 0 (sym told ∙ w.0.true)))))
-    (λ w. (omega arith, rw w.1 (omega arith), w.1 ∙ sum_passed l.b l.c _ l.invariant.2 (rw (ne_eqb (get_or kinds l.b 0) 0 (λ e. w.0.false (told ∙ e))))))
-    c.if-wide-eq-COUNTED.branch-raw
+    (elim c.if-wide-eq-COUNTED.branch [
+          then-wide-eq-COUNTED w ↦ (omega arith, rw w.c-is (omega arith), w.c-is ∙ sum_more l.b l.c 1 _ l.invariant.2 (rw (eq-eqb (get_or kinds l.b 0) 0 (sym told ∙ w.if-wide-eq-COUNTED.true))))
+        | else-wide-eq-COUNTED w ↦ (omega arith, rw w.c-is (omega arith), w.c-is ∙ sum_passed l.b l.c _ l.invariant.2 (rw (ne_eqb (get_or kinds l.b 0) 0 (λ e. w.if-wide-eq-COUNTED.false (told ∙ e)))))
+        ])
 
 pub returns : goal.returns
 returns c = let l = c.loop-b in let e : l.b ≡ c.args.k = omega arith in (l.invariant.2 ∙ rw e, omega (arith, l.invariant.1))
