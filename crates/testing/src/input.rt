@@ -4,7 +4,7 @@ ghost use Rattle.io.specs.Counts.{IsPrefixLen};
 ghost use Rattle.testing.specs.Input.{piece_at, QuestionReads};
 
 use crate::print;
-use libc::STDIN_FILENO;
+use std::io::{Input, Read};
 
 // An input is shorter than this.
 pub const LIMIT: usize = 2359296;
@@ -16,13 +16,30 @@ pub fn room() -> [u8; LIMIT]
     [0; LIMIT]
 }
 
-// Standard input, read to the front of a room: its length. An input that fills the room is bad, and counts as empty.
-pub fn read(room: &mut [u8]) -> usize
+// Reads to the front of a room until it is full, the input ends or a read fails: how many bytes.
+fn read_full(reader: &mut impl Read, room: &mut [u8]) -> usize
     ensures { IsPrefixLen result room.new }
 {
-    let n = io::read_full(STDIN_FILENO, room);
+    let mut done = 0;
+    while done < room.len() {
+        let Ok(n) = reader.read(&mut room[done..]) else {
+            break;
+        };
+        if n == 0 {
+            break;
+        }
+        done += n;
+    }
+    done
+}
+
+// Standard input, read to the front of a room: its length. An input that fills the room is bad, and counts as empty.
+pub fn read(rt: &(impl Input + Print), room: &mut [u8]) -> usize
+    ensures { IsPrefixLen result room.new }
+{
+    let n = read_full(&mut rt.reader(), room);
     if n == room.len() {
-        print::bad_input();
+        print::bad_input(rt);
         return 0;
     }
     n
@@ -70,6 +87,7 @@ pub enum Question {
 }
 
 // The case at a place.
+#[tactic(auto, unfolding(crate::specs::Input::QuestionReads))]
 pub fn question_at(s: &[u8], at: usize) -> Question
     ensures { QuestionReads s.now at result }
 {

@@ -1,4 +1,3 @@
-use borrow.Author.Rules.{rules}
 use native.Mathlib.Omega.{arith}
 use Rattle.testing.proofs.Pieces.{no_length, no_bytes, found}
 use Rattle.testing.proofs.input.piece_at.Goals as goal

@@ -2,7 +2,6 @@ use Prim.Native.Nat.{◌+◌, ◌≤◌}
 use mathlib.Core.Path.{sym, ◌∙◌}
 use native.Mathlib.Omega.{arith}
 use lib.ListN.{length}
-use borrow.Author.Rules.{rules}
 use Rattle.testing.specs.Input.{QuestionReads}
 use Rattle.testing.proofs.Pieces.{within}
 use Rattle.testing.proofs.input.question_at.Goals.{In-Bytes-piece_at-2}

@@ -1,8 +1,7 @@
-use Prim.Native.Nat.{ℕ, ◌-◌, ◌%◌, ◌≤◌, ◌<◌}
-use mathlib.Core.Path.{◌≡◌, refl, ◌∙◌}
+use Prim.Native.Nat.{◌%◌}
+use mathlib.Core.Path.{refl, ◌∙◌}
 use native.Mathlib.Omega.{arith}
-use lib.ListN.{length, get_or, length-set}
-use borrow.Author.Rules.{rules}
+use lib.ListN.{length-set}
 use Rattle.numbers.proofs.Tables.{filled_more}
 use Rattle.testing.proofs.output.fill.Goals as goal
 
@@ -21,4 +20,4 @@ pub shape_of-out : goal.shape_of-out
 shape_of-out c = c.loop-i.invariant.2
 
 pub returns : goal.returns
-returns c = c.loop-i.invariant.3 i (omega (arith, c.loop-i.invariant.1))
+returns c = λ i h. c.loop-i.invariant.3 i (omega (arith, c.loop-i.invariant.1))

@@ -1,9 +1,8 @@
 use Prim.Native.Nat.{◌-◌, ◌≤◌}
-use borrow.Author.Rules.{rules}
 use Rattle.testing.proofs.print.outs.Given as goal
 
 abbrev pub invariant-loop-i : goal.invariant-loop-i
-invariant-loop-i l = i ≤ 8
+invariant-loop-i g l = l.i ≤ 8
 
 abbrev pub decreases-loop-i : goal.decreases-loop-i
-decreases-loop-i l = 8 - i
+decreases-loop-i g l = 8 - l.i
