@@ -5,52 +5,52 @@ use rules::{Answer, Checked};
 use testing::input::Piece;
 use testing::{input, print};
 
-fn print_answer(answer: Answer, order: [u8; 8]) {
+fn print_answer(rt: &impl Print, answer: Answer, order: [u8; 8]) {
     match answer {
         Answer::Accepted { rounds, winner } => {
-            print::text(b" accepted ");
-            print::result(rounds, order, winner);
+            print::text(rt, b" accepted ");
+            print::result(rt, rounds, order, winner);
         }
         Answer::Refused { refusal, record } => {
-            print::text(b" ");
-            print::refused(refusal, record);
+            print::text(rt, b" ");
+            print::refused(rt, refusal, record);
         }
     }
 }
 
-fn print_checked(checked: Checked) {
+fn print_checked(rt: &impl Print, checked: Checked) {
     let answer = checked.answer;
     let order = checked.order;
-    print_answer(answer, order);
+    print_answer(rt, answer, order);
 }
 
-fn check(name: &[u8], board: &[u8]) {
-    print::text(name);
-    print_checked(checker::check(board));
-    print::text(b"; small");
-    print_checked(checker::check_small(board));
-    print::text(b"\n");
+fn check(rt: &impl Print, name: &[u8], board: &[u8]) {
+    print::text(rt, name);
+    print_checked(rt, checker::check(board));
+    print::text(rt, b"; small");
+    print_checked(rt, checker::check_small(board));
+    print::text(rt, b"\n");
 }
 
 // Each frame is a name and a board.
-fn run(input: &[u8]) {
+fn run(rt: &impl Print, input: &[u8]) {
     let mut at = 0;
     while at < input.len() {
         let Piece::Bytes(a, b) = input::piece_at(input, at) else {
-            print::bad_input();
+            print::bad_input(rt);
             return;
         };
         let Piece::Bytes(c, d) = input::piece_at(input, b) else {
-            print::bad_input();
+            print::bad_input(rt);
             return;
         };
-        check(&input[a..b], &input[c..d]);
+        check(rt, &input[a..b], &input[c..d]);
         at = d;
     }
 }
 
-fn main() {
+fn main(rt: HostRuntime) {
     let mut input = input::room();
-    let n = input::read(&mut input);
-    run(&input[..n]);
+    let n = input::read(&rt, &mut input);
+    run(&rt, &input[..n]);
 }

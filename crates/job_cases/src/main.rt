@@ -24,33 +24,34 @@ fn digest_of(out: &[u8], size: usize) -> [u8; 32]
     sha256::digest(&out[0..size])
 }
 
-fn print_reply(reply: Reply, order: [u8; 8], out: &[u8]) {
+fn print_reply(rt: &impl Print, reply: Reply, order: [u8; 8], out: &[u8]) {
     match reply {
         Reply::Board {
             length,
             rounds,
             winner,
         } => {
-            print::text(b" written ");
-            print::number(length);
-            print::text(b" ");
-            print::digest(digest_of(out, length));
-            print::text(b" ");
-            print::result(rounds, order, winner);
-            print::text(b", rest ");
-            print::kept(output::kept(out, length));
+            print::text(rt, b" written ");
+            print::number(rt, length);
+            print::text(rt, b" ");
+            print::digest(rt, digest_of(out, length));
+            print::text(rt, b" ");
+            print::result(rt, rounds, order, winner);
+            print::text(rt, b", rest ");
+            print::kept(rt, output::kept(out, length));
         }
         Reply::Refused { refusal, ranking } => {
-            print::text(b" ");
-            print::refused(refusal, ranking);
-            print::text(b", output ");
-            print::kept(output::kept(out, 0));
+            print::text(rt, b" ");
+            print::refused(rt, refusal, ranking);
+            print::text(rt, b", output ");
+            print::kept(rt, output::kept(out, 0));
         }
     }
 }
 
 // Writes a job into the first bytes of out.
 fn write(
+    rt: &impl Print,
     job: Job,
     label: &[u8],
     rankings: &[u8],
@@ -64,7 +65,7 @@ fn write(
     let written = writer::write(job, label, rankings, kinds, draws, &mut out[0..size]);
     let reply = written.reply;
     let order = written.order;
-    print_reply(reply, order, out);
+    print_reply(rt, reply, order, out);
 }
 
 fn job_of(numbers: Numbers) -> Job {
@@ -80,6 +81,7 @@ fn job_of(numbers: Numbers) -> Job {
 
 // Writes a job, its draws given as bytes, and prints its line; false where draws or output are too long for this program.
 fn answer(
+    rt: &impl Print,
     name: &[u8],
     numbers: Numbers,
     label: &[u8],
@@ -98,8 +100,9 @@ fn answer(
     let draws = buffers::draws_of(bytes);
     let mut out = buffers::no_output();
     output::fill(&mut out);
-    print::text(name);
+    print::text(rt, name);
     write(
+        rt,
         job_of(numbers),
         label,
         rankings,
@@ -112,7 +115,7 @@ fn answer(
 }
 
 // The same for the job at a place.
-fn answer_at(input: &[u8], at: usize, ends: Ends) -> bool
+fn answer_at(rt: &impl Print, input: &[u8], at: usize, ends: Ends) -> bool
     requires { Within input.now at ends }
 {
     let name = ends.name;
@@ -121,6 +124,7 @@ fn answer_at(input: &[u8], at: usize, ends: Ends) -> bool
     let kinds = ends.kinds;
     let draws = ends.draws;
     answer(
+        rt,
         &input[at + 4..name],
         frame::numbers_at(input, name),
         &input[name + 32..label],
@@ -130,23 +134,23 @@ fn answer_at(input: &[u8], at: usize, ends: Ends) -> bool
     )
 }
 
-fn run(input: &[u8]) {
+fn run(rt: &impl Print, input: &[u8]) {
     let mut at = 0;
     while at < input.len() {
         let Frame::Job(ends) = frame::read(input, at) else {
-            print::bad_input();
+            print::bad_input(rt);
             return;
         };
-        if !answer_at(input, at, ends) {
-            print::bad_input();
+        if !answer_at(rt, input, at, ends) {
+            print::bad_input(rt);
             return;
         }
         at = ends.draws;
     }
 }
 
-fn main() {
+fn main(rt: HostRuntime) {
     let mut input = input::room();
-    let n = input::read(&mut input);
-    run(&input[..n]);
+    let n = input::read(&rt, &mut input);
+    run(&rt, &input[..n]);
 }

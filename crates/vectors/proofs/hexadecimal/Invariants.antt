@@ -1,11 +1,7 @@
-use borrow.Author.Rules.{rules}
-use mathlib.Core.Path.{◌≡◌, refl, sym, ap, ◌∙◌}
+use mathlib.Core.Path.{◌≡◌}
 use Prim.Native.Nat.{◌-◌, ◌*◌, ◌≤◌}
-use native.Mathlib.Omega.{arith}
-use lib.ListN.{length, take, length-set}
-use lib.Seq.{take_all}
+use lib.ListN.{length, take}
 use Rattle.vectors.specs.Hex.{hexadecimal}
-use Rattle.vectors.proofs.Text.{more}
 use Rattle.vectors.proofs.hexadecimal.Given as goal
 
 abbrev pub invariant-loop-i : goal.invariant-loop-i

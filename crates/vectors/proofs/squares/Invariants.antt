@@ -1,10 +1,6 @@
-use borrow.Author.Rules.{rules}
-use mathlib.Core.Path.{◌≡◌, refl}
+use mathlib.Core.Path.{◌≡◌}
 use Prim.Native.Nat.{ℕ, ◌+◌, ◌*◌, ◌-◌, ◌≤◌, ◌<◌}
-use native.Mathlib.Nat.{mul-le-mul}
-use native.Mathlib.Omega.{arith}
-use lib.ListN.{length, get_or, length-set, length-replicate}
-use Rattle.numbers.proofs.Tables.{filled_more}
+use lib.ListN.{length, get_or}
 use Rattle.vectors.proofs.squares.Given as goal
 
 abbrev pub invariant-loop-i : goal.invariant-loop-i

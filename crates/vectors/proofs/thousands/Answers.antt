@@ -1,9 +1,8 @@
 use borrow.Author.Rules.{rules}
 use mathlib.Core.Path.{◌≡◌, refl}
-use Prim.Native.Nat.{◌+◌, ◌*◌, ◌-◌, ◌≤◌}
+use Prim.Native.Nat.{◌+◌, ◌*◌}
 use native.Mathlib.Omega.{arith}
-use lib.ListN.{replicate, replicate-append-replicate}
-use Rattle.sha256.specs.Feed.{Fed}
+use lib.ListN.{replicate-append-replicate}
 use Rattle.sha256.proofs.Feed.{fed_none, fed_more, fed_digest}
 use Rattle.vectors.proofs.thousands.Goals as goal
 

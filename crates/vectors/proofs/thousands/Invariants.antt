@@ -1,10 +1,7 @@
-use borrow.Author.Rules.{rules}
-use mathlib.Core.Path.{◌≡◌, refl}
-use Prim.Native.Nat.{◌+◌, ◌*◌, ◌-◌, ◌≤◌}
-use native.Mathlib.Omega.{arith}
-use lib.ListN.{replicate, replicate-append-replicate}
+use mathlib.Core.Path.{◌≡◌}
+use Prim.Native.Nat.{◌*◌, ◌-◌, ◌≤◌}
+use lib.ListN.{replicate}
 use Rattle.sha256.specs.Feed.{Fed}
-use Rattle.sha256.proofs.Feed.{fed_none, fed_more, fed_digest}
 use Rattle.vectors.proofs.thousands.Given as goal
 
 abbrev pub invariant-loop : goal.invariant-loop
