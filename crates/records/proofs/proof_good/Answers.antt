@@ -2,4 +2,4 @@ use borrow.Author.Rules.{rules}
 use Rattle.records.proofs.proof_good.Goals as goal
 
 pub returns : goal.returns
-returns c = c.proof_holds.ensures _ context fed
+returns c context fed = c.proof_holds.ensures _ context fed

@@ -50,23 +50,23 @@ bad_is c draws = c.first_bad-bad.ensures (job_at c.before.before.before.before.b
 
 pub returns-then-not-sizes_good : goal.returns-then-not-sizes_good
 unfolding JobTested
-returns-then-not-sizes_good c = stops_sizes (job_at (goal.at.returns-then-not-sizes_good c).Start draws) out (sym (sizes_told (goal.at.returns-then-not-sizes_good c).After-sizes_good) ∙ c.if-not-sizes_good.true)
+returns-then-not-sizes_good c draws out = stops_sizes (job_at (goal.at.returns-then-not-sizes_good c).Start draws) out (sym (sizes_told (goal.at.returns-then-not-sizes_good c).After-sizes_good) ∙ c.if-not-sizes_good.true)
 
 pub returns-then-not-orders_good : goal.returns-then-not-orders_good
 unfolding JobTested
-returns-then-not-orders_good c = stops_orders (job_at (goal.at.returns-then-not-orders_good c).Start draws) out (sized (goal.at.returns-then-not-orders_good c).Else-not-sizes_good) (sym c.orders_good.ensures ∙ c.if-not-orders_good.true)
+returns-then-not-orders_good c draws out = stops_orders (job_at (goal.at.returns-then-not-orders_good c).Start draws) out (sized (goal.at.returns-then-not-orders_good c).Else-not-sizes_good) (sym c.orders_good.ensures ∙ c.if-not-orders_good.true)
 
 pub returns-then-not-label_good : goal.returns-then-not-label_good
 unfolding JobTested
-returns-then-not-label_good c = stops_label (job_at (goal.at.returns-then-not-label_good c).Start draws) out (sized (goal.at.returns-then-not-label_good c).Else-not-sizes_good) (ordered (goal.at.returns-then-not-label_good c).Else-not-orders_good) (sym (label_told (goal.at.returns-then-not-label_good c).After-label_good draws) ∙ c.if-not-label_good.true)
+returns-then-not-label_good c draws out = stops_label (job_at (goal.at.returns-then-not-label_good c).Start draws) out (sized (goal.at.returns-then-not-label_good c).Else-not-sizes_good) (ordered (goal.at.returns-then-not-label_good c).Else-not-orders_good) (sym (label_told (goal.at.returns-then-not-label_good c).After-label_good draws) ∙ c.if-not-label_good.true)
 
 pub returns-then-rankings-k : goal.returns-then-rankings-k
 unfolding JobTested
-returns-then-rankings-k c = stops_length (job_at (goal.at.returns-then-rankings-k c).Start draws) out (sized (goal.at.returns-then-rankings-k c).Else-not-sizes_good) (ordered (goal.at.returns-then-rankings-k c).Else-not-orders_good) (labelled (goal.at.returns-then-rankings-k c).Else-not-label_good draws) c.if-rankings-k.true
+returns-then-rankings-k c draws out = stops_length (job_at (goal.at.returns-then-rankings-k c).Start draws) out (sized (goal.at.returns-then-rankings-k c).Else-not-sizes_good) (ordered (goal.at.returns-then-rankings-k c).Else-not-orders_good) (labelled (goal.at.returns-then-rankings-k c).Else-not-label_good draws) c.if-rankings-k.true
 
 pub returns-then-bad-gt0 : goal.returns-then-bad-gt0
 unfolding JobTested
-returns-then-bad-gt0 c =
+returns-then-bad-gt0 c draws out =
     stops_ranking (job_at (goal.at.returns-then-bad-gt0 c).Start draws) out (sized (goal.at.returns-then-bad-gt0 c).Else-not-sizes_good) (ordered (goal.at.returns-then-bad-gt0 c).Else-not-orders_good) (labelled (goal.at.returns-then-bad-gt0 c).Else-not-label_good draws) c.if-rankings-k.false _
     (bad_is (goal.at.returns-then-bad-gt0 c).After-first_bad-bad draws) (omega arith)
 
@@ -85,17 +85,17 @@ kinds_well c draws =
 
 pub returns-then-not-kinds_good : goal.returns-then-not-kinds_good
 unfolding JobTested
-returns-then-not-kinds_good c = stops_kinds (job_at (goal.at.returns-then-not-kinds_good c).Start draws) out (sized (goal.at.returns-then-not-kinds_good c).Else-not-sizes_good) (ordered (goal.at.returns-then-not-kinds_good c).Else-not-orders_good) (labelled (goal.at.returns-then-not-kinds_good c).Else-not-label_good draws) (ranked_well (goal.at.returns-then-not-kinds_good c).Else-bad-gt0 draws) (sym (kinds_told (goal.at.returns-then-not-kinds_good c).After-kinds_good draws) ∙ c.if-not-kinds_good.true)
+returns-then-not-kinds_good c draws out = stops_kinds (job_at (goal.at.returns-then-not-kinds_good c).Start draws) out (sized (goal.at.returns-then-not-kinds_good c).Else-not-sizes_good) (ordered (goal.at.returns-then-not-kinds_good c).Else-not-orders_good) (labelled (goal.at.returns-then-not-kinds_good c).Else-not-label_good draws) (ranked_well (goal.at.returns-then-not-kinds_good c).Else-bad-gt0 draws) (sym (kinds_told (goal.at.returns-then-not-kinds_good c).After-kinds_good draws) ∙ c.if-not-kinds_good.true)
 
 pub returns-then-counted-eq0 : goal.returns-then-counted-eq0
 unfolding JobTested
-returns-then-counted-eq0 c =
+returns-then-counted-eq0 c draws out =
     stops_uncounted (job_at (goal.at.returns-then-counted-eq0 c).Start draws) out (sized (goal.at.returns-then-counted-eq0 c).Else-not-sizes_good) (ordered (goal.at.returns-then-counted-eq0 c).Else-not-orders_good) (labelled (goal.at.returns-then-counted-eq0 c).Else-not-label_good draws) (ranked_well (goal.at.returns-then-counted-eq0 c).Else-bad-gt0 draws) (kinds_well (goal.at.returns-then-counted-eq0 c).Else-not-kinds_good draws)
     (none_counted (job_at (goal.at.returns-then-counted-eq0 c).Start draws) _ c.counted.ensures.0 c.if-counted-eq0.true)
 
 pub returns : goal.returns
 unfolding JobTested
-returns c = (
+returns c draws = (
   record {
     sized = sized (goal.at.returns c).Else-not-sizes_good;
     ordered = ordered (goal.at.returns c).Else-not-orders_good;

@@ -63,18 +63,18 @@ fair c =
     record { passed = sound.0; drawn = sym draws_told ∙ c.if-not-draws_good.false }
 
 repeats_told : (c : goal.After-none_repeats-different) → let job : (J.Job) = let job_at : (J.Job) = let f = c.args in job_of f.job f.label.now f.rankings.now f.kinds.now f.draws.now in job_at in
-    c.none_repeats-different.result ≡ no_repeat job
+    c.none_repeats-different.result ≡ no_repeat (job (passed c))
 repeats_told c =
     let measured_is : (let job : (J.Job) = let job_at : (J.Job) = let f = c.args in job_of f.job f.label.now f.rankings.now f.kinds.now f.draws.now in job_at in Measured job c.count-ended.result c.measure_of-m.result) = let job : (J.Job) = let job_at : (J.Job) = let f = c.args in job_of f.job f.label.now f.rankings.now f.kinds.now f.draws.now in job_at in measured job _ _ c.count-ended.ensures c.measure_of-m.ensures in
     let job : (J.Job) = let job_at : (J.Job) = let f = c.args in job_of f.job f.label.now f.rankings.now f.kinds.now f.draws.now in job_at in
     repeats_are job _ _ (measured_rounds job measured_is) c.none_repeats-different.ensures
 
 group_is : (c : goal.After-new-setup) → let job : (J.Job) = let job_at : (J.Job) = let f = c.args in job_of f.job f.label.now f.rankings.now f.kinds.now f.draws.now in job_at in
-    parameters_of c.new-setup.result.group ≡ group_of sha256 job
+    parameters_of c.new-setup.result.group ≡ group_of sha256 (job (passed c))
 unfolding JobTested
 group_is c =
     let sound : (let job : (J.Job) = let job_at : (J.Job) = let f = c.args in job_of f.job f.label.now f.rankings.now f.kinds.now f.draws.now in job_at in Passed sha256 job × (parameters_of c.in-Sound.g ≡ group_of sha256 job)) = let told : (let job_at : (J.Job) = let f = c.args in job_of f.job f.label.now f.rankings.now f.kinds.now f.draws.now in (t : Tested) → c.up_to_kinds-tested.result ≡ t → JobTested job_at t) = λ t e. let job_at : (J.Job) = let f = c.args in job_of f.job f.label.now f.rankings.now f.kinds.now f.draws.now in subst (JobTested job_at) e (c.up_to_kinds-tested.ensures _) in told _ c.in-Sound.is in
-    ap parameters_of c.new-setup.ensures.0 ∙ sound.1
+    ap parameters_of c.new-setup.ensures.0 ∙ (sound (passed c)).1
 
 pub returns-in-Refused : goal.returns-in-Refused
 unfolding JobTested
@@ -140,7 +140,7 @@ pub measure_of-m-requires : goal.measure_of-m-requires
 measure_of-m-requires c = let w = measurable (job (goal.at.measure_of-m-requires c).In-Sound) (sound (goal.at.measure_of-m-requires c).In-Sound).0 in (w.1, omega (arith, c.count-ended.ensures.2), w.2, w.4)
 
 pub new-setup-requires : goal.new-setup-requires
-new-setup-requires c = group_positive (job (goal.at.new-setup-requires c).In-Sound) _ (sound (goal.at.new-setup-requires c).In-Sound).1 (sound (goal.at.new-setup-requires c).In-Sound).0.ordered
+new-setup-requires c = let t = passed c in group_positive (job t) _ (sound t).1 (sound t).0.ordered
 
 pub board_written-requires : goal.board_written-requires
 board_written-requires c = (measured_is (at c)).kept

@@ -38,7 +38,7 @@ loop-c-preserved c =
     )
 
 pub returns : goal.returns
-returns c =
+returns c m fed =
     let l = c.loop-c in
     let f = c.args in
     let e : l.c ≡ f.b.n * f.b.n = omega arith in

@@ -40,7 +40,7 @@ near : (c : goal.After-opened-v) → let f = c.args in
 near c = (c.requires.ready.3, cells c.args.b.n c.requires.ready.2, c.requires.draws_below.near)
 
 pub returns : goal.returns
-returns c =
+returns c m fed =
     let f = c.args in
     let p = c.requires.ready in
     c.make.ensures m (ballot_context f.b.number f.c) (fed_more _ m fed _ _ c.feed_context-prefix.ensures)

@@ -17,7 +17,7 @@ write_lines-requires c =
     ((p.0, p.1, p.2, simp (length-take, length-drop) (omega (arith, p.3, c, c)), p.4), c.requires.1)
 
 pub returns : goal.returns
-returns c =
+returns c m fed =
     let f = c.args in
     let g = parameters_of f.g.group in
     let list : ℕ → ℕ = λ k. get_or f.b.list k 0 in

@@ -51,7 +51,7 @@ make-requires c =
 
 pub returns : goal.returns
 unfolding line_of
-returns c =
+returns c m fed =
     let f = c.args in
     let p = c.requires.ready in
     let line = c.line_of-line in

@@ -33,7 +33,7 @@ make-requires c =
     }
 
 pub returns : goal.returns
-returns c =
+returns c m fed =
     let f = c.args in
     let g = parameters_of f.g.group in
     let p = c.requires.ready.1 in

@@ -73,26 +73,28 @@ module _ (c : tie.After-write-shift-arg) where
 
 pub write_shift-requires : goal.write_shift-requires
 write_shift-requires c =
-    let f = c.args in
+    let s = start c in
+    let f = s.args in
     let t = f.turn.plan in
-    let p = c.requires in
-    let l = left (goal.at.write_shift-requires c).Start in record {
+    let p = s.pre in
+    let l = left s in record {
       ready = (
         p.0,
-        shifting (job_at (goal.at.write_shift-requires c).Start) (head_group f.head) f.turn.b (was (goal.at.write_shift-requires c).Start) (list_of t.before) t.a _ (counted c) refl (rows_is c) (round_is c) c.low16.ensures c.still_in-before.ensures (after_is c) (struck_is c) (column_is c) (p.1.old (was (goal.at.write_shift-requires c).Start) (next (goal.at.write_shift-requires c).Start)) (new_is c)
-            f.head.setup.group.p p.0.p_pos p.1.round.n_high (rw (← (next (goal.at.write_shift-requires c).Start)) p.1.round.early) p.1.below l.low l.high (l.place f.turn.b p.1.below) (rw (← (next (goal.at.write_shift-requires c).Start)) p.1.round.drawn),
+        shifting (job_at s) (head_group f.head) f.turn.b (was s) (list_of t.before) t.a _ (counted c) refl (rows_is c) (round_is c) c.low16.ensures c.still_in-before.ensures (after_is c) (struck_is c) (column_is c) (p.1.old (was s) (next s)) (new_is c)
+            f.head.setup.group.p p.0.p_pos p.1.round.n_high (rw (← (next s)) p.1.round.early) p.1.below l.low l.high (l.place f.turn.b p.1.below) (rw (← (next s)) p.1.round.drawn),
       );
-      n_in_bounds = omega (arith, length_later f.head.n (kind_of (job_at (goal.at.write_shift-requires c).Start) f.turn.b) t.m (λ e. omega (arith, p.2)) (counted c), p.3);
+      n_in_bounds = omega (arith, length_later f.head.n (kind_of (job_at s) f.turn.b) t.m (λ e. omega (arith, p.2)) (counted c), p.3);
     }
 
 pub returns : goal.returns
 returns c =
-    let f = c.args in
+    let s = start c in
+    let f = s.args in
     let t = f.turn.plan in
     c.write_shift.ensures
     ∙ ap (λ (x : List ℕ). written x f.out.now)
-    (later_is (job_at (goal.at.returns c).Start) (head_group f.head) f.turn.b (was (goal.at.returns c).Start) (list_of t.before) t.a _ (counted c) refl (rows_is c) (round_is c) c.low16.ensures c.still_in-before.ensures (after_is c) (struck_is c) (column_is c) (c.requires.1.old (was (goal.at.returns c).Start) (next (goal.at.returns c).Start)) (new_is c)
-    t.m (next (goal.at.returns c).Start))
+    (later_is (job_at s) (head_group f.head) f.turn.b (was s) (list_of t.before) t.a _ (counted c) refl (rows_is c) (round_is c) c.low16.ensures c.still_in-before.ensures (after_is c) (struck_is c) (column_is c) (s.pre.1.old (was s) (next s)) (new_is c)
+    t.m (next s))
 
 pub overflow_mul-first : goal.overflow_mul-first
 overflow_mul-first c = omega (arith, ranked (goal.at.overflow_mul-first c).Start)
@@ -104,4 +106,4 @@ pub still_in-after-requires : goal.still_in-after-requires
 still_in-after-requires c = (c.requires.1.round.n_high, ranked (goal.at.still_in-after-requires c).Start, c.requires.1.round.gone_listed)
 
 pub overflow_sub-s-2 : goal.overflow_sub-s-2
-overflow_sub-s-2 c = omega (arith, c.wide-2.ensures, (left (goal.at.overflow_sub-s-2 c).Start).low)
+overflow_sub-s-2 c = omega (arith, c.wide-2.ensures, (left (start c)).low)

@@ -12,6 +12,7 @@ use Rattle.count.specs.State.{list_of}
 use Rattle.plain.proofs.Lists.{standing_out, standing_in, part_few}
 use Rattle.count.proofs.Firsts.{pad_more}
 use borrow.Author.Rules.{rules}
+use Rattle.plain.proofs.rankings.still_in.Goals.{else-not-is_out, then-not-is_out}
 use Rattle.plain.proofs.rankings.still_in.Goals as goal
 
 pub loop-i-init : goal.loop-i-init
@@ -29,17 +30,15 @@ loop-i-preserved c =
     let told : member x gone ≡ c.is_out.result = sym (c.is_out.ensures ∙ rw c.wide.ensures) in
     let few = part_few gone s f.at l.i in
     let st = remaining gone (part s f.at l.i) in
-    ⊎_elim
-    (λ w.
-    let e = told ∙ not-true _ w.0.true in (
+    (elim c.if-not-is_out.branch [
+          then-not-is_out w ↦ let e = told ∙ w.if-not-is_out.true in (
       omega arith,
-      w.1 ∙ rw (l.invariant.1, l.invariant.2) (pad_more st (length st) x refl (omega (arith, c.requires)) ∙ ap with_zeros (standing_in gone s f.at l.i h e)),
-      w.2 ∙ rw (← (standing_in gone s f.at l.i h e)) (simp length-append (omega (arith, l.invariant.2))),
-    ))
-    (λ w.
-    let e = told ∙ not-false _ w.0.false in
-    (omega arith, w.1 ∙ l.invariant.1 ∙ ap with_zeros (standing_out gone s f.at l.i h e), w.2 ∙ l.invariant.2 ∙ ap length (standing_out gone s f.at l.i h e)))
-    c.if-not-is_out.branch-raw
+      w.list-is ∙ rw (l.invariant.1, l.invariant.2) (pad_more st (length st) x refl (omega (arith, c.requires)) ∙ ap with_zeros (standing_in gone s f.at l.i h e)),
+      w.found-is ∙ rw (← (standing_in gone s f.at l.i h e)) (simp length-append (omega (arith, l.invariant.2))),
+    )
+        | else-not-is_out w ↦ let e = told ∙ w.if-not-is_out.false in
+    (omega arith, w.list-is ∙ l.invariant.1 ∙ ap with_zeros (standing_out gone s f.at l.i h e), w.found-is ∙ l.invariant.2 ∙ ap length (standing_out gone s f.at l.i h e))
+        ])
 
 pub bounds-list-found : goal.bounds-list-found
 bounds-list-found c = omega (arith, part_few (list_of c.args.gone) c.args.rankings.now c.args.at c.loop-i.i, c.loop-i.invariant.2, c.requires)

@@ -18,7 +18,7 @@ use Rattle.rules.specs.Bytes.{number8}
 use Rattle.rules.specs.Proofs.{Context, context_bytes, proof_holds, branch_at, statement_at}
 use Rattle.statements.specs.Claims.{claim_of}
 use Rattle.statements.proofs.Branches.{here, branch_here, piece, pieces, challenges, within, branch_within, sum_more, fails_there, sums_up, fed_below_none, fed_below_more, fed_branch}
-use Rattle.statements.proofs.proof.proof_holds.Goals.{After-feed_statement-h, After-statement_holds, In-branches, In-loop-i, Left-branches}
+use Rattle.statements.proofs.proof.proof_holds.Goals.{else-branches-test, then-branches-test+then-loop-i-test+then-not-statement_holds, After-feed_statement-h, After-statement_holds, In-branches, In-loop-i, Left-branches}
 use Rattle.statements.proofs.proof.proof_holds.Goals as goal
 
 pub branches-init : goal.branches-init
@@ -35,7 +35,7 @@ branch_fits c =
     let a = c.args in (
       branch_within a.shape.at a.shape.branches a.shape.statements c.branches.l (length a.board.now)
           c.requires.statements_in_bounds c.branches-test.true,
-      omega (arith, c.good),
+      omega (arith, c.well_formed),
     )
 
 fits : (c : goal.In-loop-i) → let a = c.args in
@@ -47,14 +47,14 @@ fits c =
           (length a.board.now)
           c.requires.statements_in_bounds
           c.branches-test.true c.loop-i-test.true,
-      omega (arith, c.good),
+      omega (arith, c.well_formed),
     )
 
 pub claimed-st-requires : goal.claimed-st-requires
 claimed-st-requires c =
-    let pre = c.requires in record {
-      ready = pre.0;
-      within = pre.1.1 c.branches.l c.loop-i.i
+    record {
+      ready = c.requires.ready;
+      within = c.requires.by_index c.branches.l c.loop-i.i
           c.branches-test.true c.loop-i-test.true;
     }
 
@@ -111,65 +111,54 @@ branches-preserved c =
     )
 
 -- what holds where the loops end without a failing statement
-record Done (c : tie.Left-branches invariant_loop decreases_loop invariant_branches decreases_branches) : Type 0 where
+record Done (c : goal.Left-branches) : Type 0 where
   pub all :
-      let a = c.before.before.before.before.args in
+      let a = c.args in
       all_below a.shape.branches (branch_here a.board.now a.g.group.p a.bases.first.0 a.bases.second.0
       (claim_of a.board.now (parameters_of a.g.group) a.claim) a.shape.at a.shape.statements)
       ≡ true
   pub sum :
-      let a = c.before.before.before.before.args in
-      c.branches_test.sum.0 ≡ sum_below a.shape.branches (challenges a.board.now a.shape.at a.shape.statements) % a.g.group.q
+      let a = c.args in
+      c.branches-test.sum.0 ≡ sum_below a.shape.branches (challenges a.board.now a.shape.at a.shape.statements) % a.g.group.q
   pub fed :
-      let a = c.before.before.before.before.args in
-      (m : List ℕ) → Fed a.prefix m → Fed c.branches_test.h (m ++ concat_below a.shape.branches (pieces a.board.now (claim_of a.board.now (parameters_of a.g.group) a.claim) a.shape.at a.shape.statements))
+      let a = c.args in
+      (m : List ℕ) → Fed a.prefix m → Fed c.branches-test.h (m ++ concat_below a.shape.branches (pieces a.board.now (claim_of a.board.now (parameters_of a.g.group) a.claim) a.shape.at a.shape.statements))
 
 -- where the ways out of the loops meet
 after : (c : goal.Left-branches) → let a = c.args in
-    (c.branches-test.type_inv ≡ true → Done c)
-    × (c.branches-test.type_inv ≡ false → (label : List ℕ) (k : Context) →
+    (c.branches-test.ok ≡ true → Done c)
+    × (c.branches-test.ok ≡ false → (label : List ℕ) (k : Context) →
     false ≡ proof_holds a.board.now a.shape.at a.shape.branches a.shape.statements sha256 label k a.g.group.p a.g.group.q
     a.bases.first.0 a.bases.second.0 (claim_of a.board.now (parameters_of a.g.group) a.claim))
 after c =
-    let this : (let a = c.args in c.statement_holds.result ≡ here a.board.now a.g.group.p a.bases.first.0 a.bases.second.0 (claim_of a.board.now (parameters_of a.g.group) a.claim) a.shape.at a.shape.statements c.branches.l c.loop.i) = let shown = c.shown_at.ensures in rw (← c.claimed.ensures, ← shown.0, ← shown.1, ← shown.2, ← c.as_exponent.ensures) c.statement_holds.ensures in
     let a = c.args in
     let o = c.branches in
-    ⊎_elim
-    (λ w.
-    let e : o.l ≡ a.shape.branches = omega (arith, w.0.false) in (
-      λ _. record {
-        all = all_end _ _ _ o.invariant.0 w.0.false o.invariant.2;
-        sum = rw (w.2, ← e) o.invariant.3;
-        fed = λ m f. rw (w.1, ← e) (o.invariant.4 m f);
-      },
-      λ z. absurd (true≢false (sym o.invariant.1 ∙ sym w.3 ∙ z)),
-    ))
-    (λ w. (
-      λ z. absurd (true≢false (sym z ∙ w.11)),
-      λ _ label k. fails_there a.board.now label k a.g.group.p a.g.group.q a.bases.first.0 a.bases.second.0
-          (claim_of a.board.now (parameters_of a.g.group) a.claim)
-          a.shape.at a.shape.branches a.shape.statements o.l w.3.i w.0.true w.4.true
-          (sym (this (record {
-            before = record {
-              before = record {
-                before = record {
-                  before = record {
-                    before = record { before = record { before = record { before = c; branches-test = w.0 }; as-exponent = w.1 }; add = w.2 };
-                    loop = w.3;
-                  };
-                  loop-test = w.4;
-                };
-                claimed = w.5;
-              };
-              shown-at = w.6;
-            };
-            statement-holds = w.7;
-          })) ∙ not-true _ w.8.true),
-    ))
-    c.branches-test.branch-raw
+    elim c.branches-test.branch [
+      else-branches-test w ↦
+        let e : o.l ≡ a.shape.branches = omega arith in (
+          λ _. record {
+            all = all_end _ _ _ o.invariant.0 w.branches-test.false o.invariant.2;
+            sum = rw (w.sum-is, ← e) o.invariant.3;
+            fed = λ m f. rw (w.h-is, ← e) (o.invariant.4 m f);
+          },
+          λ z. absurd (true≢false (sym o.invariant.1 ∙ sym w.ok-is ∙ z)),
+        )
+    | then-branches-test+then-loop-i-test+then-not-statement_holds w ↦
+        let shown = w.shown_at-shown.ensures in
+        let fails : here a.board.now a.g.group.p a.bases.first.0 a.bases.second.0 (claim_of a.board.now (parameters_of a.g.group) a.claim) a.shape.at
+            a.shape.statements o.l w.loop-i.i ≡ false =
+            sym (rw (← w.claimed-st.ensures, ← shown.0, ← shown.1, ← shown.2, ← w.as_exponent-e.ensures) w.statement_holds.ensures)
+            ∙ w.if-not-statement_holds.true in (
+          λ z. absurd (true≢false (sym z ∙ w.ok-is)),
+          λ _ label k. fails_there a.board.now label k a.g.group.p a.g.group.q a.bases.first.0 a.bases.second.0
+              (claim_of a.board.now (parameters_of a.g.group) a.claim)
+              a.shape.at a.shape.branches a.shape.statements o.l w.loop-i.i w.branches-test.true w.loop-i-test.true
+              fails,
+        )
+    ]
 
 pub returns : goal.returns
-returns c =
+returns c label k f =
     let a = c.args in
     let done = (after (goal.at.returns c).Left-branches).0 (c.if-not-ok.false) in
     sums_up a.board.now label k a.g.group.p a.g.group.q a.bases.first.0 a.bases.second.0
@@ -212,7 +201,7 @@ pub statement_holds-requires : goal.statement_holds-requires
 statement_holds-requires c = c.requires.ready.p_pos
 
 pub overflow_step-i : goal.overflow_step-i
-overflow_step-i c = omega (arith, c.good, c.loop-i-test.true)
+overflow_step-i c = omega (arith, c.well_formed, c.loop-i-test.true)
 
 pub returns-then-not-ok : goal.returns-then-not-ok
-returns-then-not-ok c = (after (goal.at.returns-then-not-ok c).Left-branches).1 (c.if-not-ok.true) label k
+returns-then-not-ok c label k _ = (after (goal.at.returns-then-not-ok c).Left-branches).1 (c.if-not-ok.true) label k
