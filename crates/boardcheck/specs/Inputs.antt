@@ -10,11 +10,11 @@ use Rattle.boardcheck.specs.declared.input.Input.TheVariants as I
 abbrev pub Moves : (room : ℕ) → Step → Type 0
 Moves room (S.More count) = (1 ≤ count) × (count ≤ room)
 Moves room S.End = Unit
-Moves room S.Interrupted = Unit
-Moves room S.Failed = Unit
+Moves room (S.Interrupted error) = Unit
+Moves room (S.Failed error) = Unit
 
 -- a whole input is shorter than the room, so that its end was seen
 abbrev pub Fits : (room : List ℕ) → Input → Type 0
 Fits room (I.Whole count) = (count < length room) × IsPrefixLen count room
 Fits room I.Long = Unit
-Fits room I.Failed = Unit
+Fits room (I.Failed error) = Unit
