@@ -50,6 +50,7 @@ pub fn numbers_at(s: &[u8], at: usize) -> Numbers
 }
 
 // The frame at a place.
+#[tactic(auto, unfolding(crate::specs::Frames::FrameReads))]
 pub fn read(s: &[u8], at: usize) -> Frame
     ensures { FrameReads s.now at result }
 {

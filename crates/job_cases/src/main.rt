@@ -134,6 +134,7 @@ fn answer_at(rt: &impl Print, input: &[u8], at: usize, ends: Ends) -> bool
     )
 }
 
+#[tactic(auto, unfolding(crate::specs::Frames::FrameReads))]
 fn run(rt: &impl Print, input: &[u8]) {
     let mut at = 0;
     while at < input.len() {

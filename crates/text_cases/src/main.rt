@@ -79,6 +79,7 @@ fn answer_at(rt: &impl Print, s: &[u8], at: usize, ends: Ends) -> bool
     )
 }
 
+#[tactic(auto, unfolding(testing::specs::Input::QuestionReads))]
 fn run(rt: &impl Print, s: &[u8]) {
     let mut at = 0;
     while at < s.len() {

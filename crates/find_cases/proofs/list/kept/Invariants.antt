@@ -1,13 +1,9 @@
 use Prim.Native.Nat.{◌+◌, ◌-◌, ◌≤◌}
-use mathlib.Core.Path.{◌≡◌, sym}
+use mathlib.Core.Path.{◌≡◌}
 use mathlib.Core.Bool.{true}
-use native.Mathlib.Omega.{arith}
 use lib.Dec.{eqb}
 use lib.ListN.{length, get_or}
-use borrow.Author.Rules.{rules}
-use borrow.Author.Tests.{eq-eqb, ne_eqb}
 use Rattle.numbers.specs.Below.{all_below}
-use Rattle.numbers.proofs.Tests.{all_none, all_more, all_fails, all_end}
 use Rattle.find_cases.proofs.list.kept.Given as goal
 
 abbrev pub invariant-loop-i : goal.invariant-loop-i

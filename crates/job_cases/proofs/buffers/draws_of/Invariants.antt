@@ -1,10 +1,7 @@
 use Prim.Native.Nat.{ℕ, ◌*◌, ◌-◌, ◌≤◌, ◌<◌}
 use mathlib.Core.Path.{◌≡◌}
-use native.Mathlib.Omega.{arith}
-use lib.ListN.{length, get_or, length-set}
-use borrow.Author.Rules.{rules}
+use lib.ListN.{length, get_or}
 use Rattle.rules.specs.Bytes.{number4}
-use Rattle.numbers.proofs.Tables.{filled_more}
 use Rattle.job_cases.proofs.buffers.draws_of.Given as goal
 
 abbrev pub invariant-loop-i : goal.invariant-loop-i

@@ -1,4 +1,3 @@
-use borrow.Author.Rules.{rules}
 use Rattle.job_cases.proofs.frame.numbers_at.Goals as goal
 
 pub returns : goal.returns
