@@ -21,19 +21,17 @@ few c = cells c.args.b.n c.requires.ready.2
 
 pub write_proofs-requires : goal.write_proofs-requires
 write_proofs-requires c =
-    let s = start c in
-    let p = s.pre.0 in
+    let p = c.requires.ready in
     let page = c.put_matrix.ensures in
     record {
       ready = (p.0, p.1, p.2, simp (length-take, length-drop) (omega (arith, p.3, c, c)), omega (arith, page.0));
-      draws_below = s.pre.1;
+      draws_below = c.requires.draws_below;
       paged = page.1;
     }
 
 pub returns : goal.returns
 returns c =
-    let s = start c in
-    let f = s.args in
+    let f = c.args in
     let g = parameters_of f.g.group in
     let list : ℕ → ℕ = λ k. get_or f.b.list k 0 in
     let fed = fed_first _ _ f.label.now c.new.ensures c.update-labelled.ensures in
