@@ -18,7 +18,7 @@ known_within c = omega (arith, in_proof c.args.maker.plan c.args.maker.plan.know
 pub answer-requires : goal.answer-requires
 answer-requires c =
     let d = c.requires.ready.1.drawn in record {
-      q_nonzero = (d.positive, c.requires.statements_in_bounds.1, simp (length-take, length-drop) (omega (arith, known_within (goal.at.answer-requires c).After-branch_draws-at, c.commit-h.kept)));
+      q_nonzero = (d.positive, c.requires.statements_in_bounds.1, simp (length-take, length-drop) (omega (arith, known_within (goal.at.answer-requires c).After-branch_draws-at)));
       statements_in_bounds = rw c.branch_draws-at.ensures (true_fits _ c.args.maker.plan c.args.draws.now d c.args.maker.plan.known d.known refl);
     }
 
