@@ -20,7 +20,7 @@ returns-in-Refused c = refuses _ _ _ _ (walk_refused _ _ _ _ _ _ (rw c.in-Refuse
 
 -- no ballot is refused, and these are the numbers
 abbrev numbers : (c : goal.In_default) → List ℕ
-numbers c = c.walk_ballots-walked.new.1.1.1.1.0
+numbers c = c.walk_ballots-walked.new.numbers
 
 sound : (c : goal.In_default) → find_in_ballots sha256 c.args.board.now c.args.digests.now ≡ numbers_found (numbers c)
 sound c = walk_sound _ _ _ _ c.requires.2 (rw c.in_default.is at c.walk_ballots-walked.ensures)

@@ -44,8 +44,8 @@ pub slice_bounds-page-end : goal.slice_bounds-page-end
 slice_bounds-page-end c = omega (arith, few (goal.at.slice_bounds-page-end c).After-put_matrix, c.put_matrix.ensures.0)
 
 pub slice_bounds-put_ballot_front-end : goal.slice_bounds-put_ballot_front-end
-slice_bounds-put_ballot_front-end c = sym (length-take-le _ c.put_matrix.new.0 (omega (arith, few (goal.at.slice_bounds-put_ballot_front-end c).After-put_matrix, c.put_matrix.ensures.0)))
+slice_bounds-put_ballot_front-end c = sym (length-take-le _ c.put_matrix.new.page (omega (arith, few (goal.at.slice_bounds-put_ballot_front-end c).After-put_matrix, c.put_matrix.ensures.0)))
 
 pub put_ballot_front-requires : goal.put_ballot_front-requires
-put_ballot_front-requires c = rw (length-take-le (8 * (c.args.b.n * c.args.b.n)) c.put_matrix.new.0 (omega (arith, few (goal.at.put_ballot_front-requires c).After-put_matrix, c.put_matrix.ensures.0)))
+put_ballot_front-requires c = rw (length-take-le (8 * (c.args.b.n * c.args.b.n)) c.put_matrix.new.page (omega (arith, few (goal.at.put_ballot_front-requires c).After-put_matrix, c.put_matrix.ensures.0)))
     (omega (arith, c.requires.ready.3))
