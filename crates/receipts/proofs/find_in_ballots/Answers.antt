@@ -16,7 +16,9 @@ walk_ballots-walked-requires c =
     (c.requires.0, c.requires.1, omega (arith, c.requires.3))
 
 pub returns-in-Refused : goal.returns-in-Refused
-returns-in-Refused c = refuses _ _ _ _ (walk_refused _ _ _ _ _ _ (rw c.in-Refused.is at c.walk_ballots-walked.ensures))
+returns-in-Refused c =
+    let w = refuses _ _ _ _ (walk_refused _ _ _ _ _ _ (rw c.in-Refused.is at c.walk_ballots-walked.ensures)) in
+    record { found_after = w.0; found_after_2 = w.1 }
 
 -- no ballot is refused, and these are the numbers
 abbrev numbers : (c : goal.In_default) → List ℕ
@@ -29,7 +31,9 @@ long : (c : goal.In_default) → length (numbers c) ≡ length c.args.found.now
 long c = numbers_long _ _ _ (sound c) ∙ sym c.requires.3
 
 pub returns : goal.returns
-returns c = lists _ _ _ _ (sound (goal.at.returns c).In_default) (long (goal.at.returns c).In_default) c.put_numbers.ensures
+returns c =
+    let w = lists _ _ _ _ (sound (goal.at.returns c).In_default) (long (goal.at.returns c).In_default) c.put_numbers.ensures in
+    record { found_after = w.0; found_after_2 = w.1 }
 
 pub put_numbers-requires : goal.put_numbers-requires
 put_numbers-requires c = omega (arith, long (goal.at.put_numbers-requires c).In_default)

@@ -36,7 +36,7 @@ returns c =
     let list : ℕ → ℕ = λ k. get_or f.b.list k 0 in
     let fed = fed_first _ _ f.label.now c.new.ensures c.update-labelled.ensures in
     let page = c.put_matrix in
-    let e = pairs_back page.last.0 0 f.b.n f.b.n (8 * (f.b.n * f.b.n)) (matrix_of g f.b.n list f.draws.now f.b.from) refl page.ensures.1 in
+    let e = pairs_back page.new.page 0 f.b.n f.b.n (8 * (f.b.n * f.b.n)) (matrix_of g f.b.n list f.draws.now f.b.from) refl page.ensures.1 in
     more _ _ _ _ _ _ (proofs_start f.label.now g f.b.n f.b.number list f.draws.now f.b.from f.b.kind _ e) c.put_ballot_front.ensures (c.write_proofs.ensures _ fed)
     ∙ ap (λ (x : List ℕ). written x f.out.now) (body_joined f.label.now g f.b.n f.b.number list f.draws.now f.b.from f.b.kind _ e)
 

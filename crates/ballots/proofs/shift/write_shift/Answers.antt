@@ -31,7 +31,7 @@ returns c =
     let g = parameters_of f.g.group in
     let fed = fed_first _ _ f.label.now c.new.ensures c.update-labelled.ensures in
     let page = c.put_matrices in
-    let e = pairs_back page.last.0 512 f.s.rows f.s.n (512 + 8 * (f.s.rows * f.s.n) - 512) (new_matrix g f.s f.draws.now) (omega arith) page.ensures.2 in
+    let e = pairs_back page.new.page 512 f.s.rows f.s.n (512 + 8 * (f.s.rows * f.s.n) - 512) (new_matrix g f.s f.draws.now) (omega arith) page.ensures.2 in
     more _ _ _ _ _ _ (shift_start g f.s f.draws.now c.requires.ready.1 _ e) c.put_shift_front.ensures (c.write_shift_proof.ensures _ fed)
     ∙ ap (λ (x : List ℕ). written x f.out.now) (shift_joined g f.s f.draws.now c.requires.ready.1 f.label.now _ e)
 
