@@ -27,5 +27,5 @@ pub returns : goal.returns
 unfolding HeaderReads
 returns c =
     let r = told (goal.at.returns c).After-next_header-read _ c.in-Board.is in
-    let w = front_back c.args.count _ _ _ _ c.find_in_ballots.result r.0 c.requires.1 c.requires.3 (c.find_in_ballots.ensures.found_after, c.find_in_ballots.ensures.found_after_2) in
+    let w = front_back c.args.count _ _ _ _ c.find_in_ballots.result r.0 c.requires.1 c.requires.3 c.find_in_ballots.ensures.found_after c.find_in_ballots.ensures.found_after_2 in
     record { found_after = w.0; found_after_2 = w.1 }
