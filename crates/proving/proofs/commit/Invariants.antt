@@ -16,11 +16,11 @@ use borrow.Author.Rules.{rules}
 use Rattle.proving.proofs.commit.Given as goal
 
 abbrev pub invariant-loop-l : goal.invariant-loop-l
-invariant-loop-l l =
-    let G = parameters_of l.g.group in
-    let C = claim_of l.page G l.plan.claim in
-    (l.l ≤ l.plan.branches) × (length l.out ≡ length l.initial.out) × (l.out ≡ written (concat_below l.l (draft_branch G C l.plan l.draws)) l.initial.out)
-    × ((m : List ℕ) → Fed l.initial.h m → Fed l.h (m ++ concat_below l.l (λ l. branch_said l.plan.statements (C l) (draft_commitments G C l.plan l.draws l))))
+invariant-loop-l v =
+    let G = parameters_of v.g.group in
+    let C = claim_of v.page G v.plan.claim in
+    (v.l ≤ v.plan.branches) × (length v.out ≡ length v.initial.out) × (v.out ≡ written (concat_below v.l (draft_branch G C v.plan v.draws)) v.initial.out)
+    × ((m : List ℕ) → Fed v.initial.h m → Fed v.h (m ++ concat_below v.l (λ l. branch_said v.plan.statements (C l) (draft_commitments G C v.plan v.draws l))))
 
 abbrev pub decreases-loop-l : goal.decreases-loop-l
 decreases-loop-l l = l.plan.branches - l.l

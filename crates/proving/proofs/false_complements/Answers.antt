@@ -7,6 +7,7 @@ use Rattle.numbers.specs.Below.{sum_below}
 use Rattle.proving.specs.Plans.{false_complements}
 use Rattle.proving.proofs.Draws.{false_fits, false_low, against_true, against_false}
 use borrow.Author.Rules.{rules}
+use Rattle.proving.proofs.false_complements.Goals.{else-l-known, then-l-known}
 use Rattle.proving.proofs.false_complements.Goals as goal
 
 pub loop-l-init : goal.loop-l-init
@@ -17,15 +18,15 @@ pub loop-l-preserved : goal.loop-l-preserved
 loop-l-preserved c =
     let l = c.loop-l in
     let f = c.args in
-    ⊎_elim
-    (λ w. (
+    (elim c.if-l-known.branch [
+          then-l-known w ↦ (
       omega arith,
       omega arith,
-      rw w.3 (omega (arith, c.requires.low)),
-      w.3 ∙ rw w.1.ensures (against_false f.q f.plan f.draws.now c.requires l.l (omega arith) _ l.invariant.3 w.0.true),
-    ))
-    (λ w. (omega arith, omega arith, rw w.1 (omega arith), w.1 ∙ against_true f.q f.plan f.draws.now c.requires l.l (omega arith) _ l.invariant.3 w.0.false))
-    c.if-l-known.branch-raw
+      rw w.sum-is (omega (arith, c.requires.low)),
+      w.sum-is ∙ rw w.branch_draws-at.ensures (against_false f.q f.plan f.draws.now c.requires l.l (omega arith) _ l.invariant.3 w.if-l-known.true),
+    )
+        | else-l-known w ↦ (omega arith, omega arith, rw w.sum-is (omega arith), w.sum-is ∙ against_true f.q f.plan f.draws.now c.requires l.l (omega arith) _ l.invariant.3 w.if-l-known.false)
+        ])
 
 pub offset_bounds-draws-at : goal.offset_bounds-draws-at
 offset_bounds-draws-at c = omega (arith, c.well_formed, false_fits c.args.q c.args.plan c.args.draws.now c.requires c.loop-l.l (omega arith) c.if-l-known.true, c.branch_draws-at.ensures)

@@ -12,21 +12,19 @@ use Rattle.proving.proofs.make.Goals.{After-branch_draws-at}
 use Rattle.proving.proofs.make.Goals as goal
 
 -- the known branch's end is within the proof
-known_within : (c : goal.After-branch_draws-at) → let f = (start c).args in (f.maker.plan.known + 1) * (4 + 12 * f.maker.plan.statements) ≤ length f.out.now
-known_within c = let s = start c in omega (arith, in_proof s.args.maker.plan s.args.maker.plan.known s.pre.0.1.drawn.known, s.pre.1)
+known_within : (c : goal.After-branch_draws-at) → let f = c.args in (f.maker.plan.known + 1) * (4 + 12 * f.maker.plan.statements) ≤ length f.out.now
+known_within c = omega (arith, in_proof c.args.maker.plan c.args.maker.plan.known c.requires.ready.1.drawn.known, c.requires.statements_in_bounds)
 
 pub answer-requires : goal.answer-requires
 answer-requires c =
-    let s = start c in
-    let d = s.pre.0.1.drawn in record {
-      q_nonzero = (d.positive, s.pre.1.1, simp (length-take, length-drop) (omega (arith, known_within (goal.at.answer-requires c).After-branch_draws-at, c.commit-h.kept)));
-      statements_in_bounds = rw c.branch_draws-at.ensures (true_fits _ s.args.maker.plan s.args.draws.now d s.args.maker.plan.known d.known refl);
+    let d = c.requires.ready.1.drawn in record {
+      q_nonzero = (d.positive, c.requires.statements_in_bounds.1, simp (length-take, length-drop) (omega (arith, known_within (goal.at.answer-requires c).After-branch_draws-at)));
+      statements_in_bounds = rw c.branch_draws-at.ensures (true_fits _ c.args.maker.plan c.args.draws.now d c.args.maker.plan.known d.known refl);
     }
 
 pub returns : goal.returns
 returns c label context fed =
-    let s = start c in
-    let f = s.args in
+    let f = c.args in
     let g = parameters_of f.g.group in
     let cl = claim_of f.page.now g f.maker.plan.claim in
     let all = c.commit-h.ensures in
@@ -34,7 +32,7 @@ returns c label context fed =
     let sum = c.false_complements-sum.ensures.0 in
     let e = challenge_is label context g cl f.maker f.draws.now _ _ _ _ digest
     c.challenge-whole.ensures sum c.reduce_exp-e.ensures in
-    joined label context g cl f.maker f.draws.now s.pre.0.1.drawn.known f.out.now _ _ _ _ _ refl e
+    joined label context g cl f.maker f.draws.now c.requires.ready.1.drawn.known f.out.now _ _ _ _ _ refl e
     c.branch_draws-at.ensures all.wrote c.answer.ensures
 
 pub false_complements-sum-requires : goal.false_complements-sum-requires
@@ -53,13 +51,13 @@ pub branch_draws-at-requires : goal.branch_draws-at-requires
 branch_draws-at-requires c = let d = c.requires.ready.1.drawn in (omega (arith, d.few, d.known), d.small, d.near)
 
 pub overflow_mul-place : goal.overflow_mul-place
-overflow_mul-place c = omega (arith, (start c).pre.0.1.drawn.small)
+overflow_mul-place c = omega (arith, c.requires.ready.1.drawn.small)
 
 pub overflow_add-place : goal.overflow_add-place
-overflow_add-place c = omega (arith, (start c).pre.0.1.drawn.small)
+overflow_add-place c = omega (arith, c.requires.ready.1.drawn.small)
 
 pub overflow_mul-place-2 : goal.overflow_mul-place-2
-overflow_mul-place-2 c = omega (arith, known_within c, (start c).good)
+overflow_mul-place-2 c = omega (arith, known_within c, c.well_formed)
 
 pub slice_bounds-answer-count : goal.slice_bounds-answer-count
 slice_bounds-answer-count c = omega (arith, known_within c)

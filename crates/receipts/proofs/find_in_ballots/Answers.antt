@@ -7,6 +7,7 @@ use borrow.Author.Rules.{rules}
 use Rattle.sha256.specs.Message.{sha256}
 use Rattle.rules.specs.Receipts.{digest_count, numbers_found, find_in_ballots}
 use Rattle.receipts.proofs.Answering.{walk_refused, walk_sound, numbers_long, refuses, lists}
+use Rattle.receipts.proofs.find_in_ballots.Goals.{In_default}
 use Rattle.receipts.proofs.find_in_ballots.Goals as goal
 
 pub walk_ballots-walked-requires : goal.walk_ballots-walked-requires
@@ -15,24 +16,24 @@ walk_ballots-walked-requires c =
     (c.requires.0, c.requires.1, omega (arith, c.requires.3))
 
 pub returns-in-Refused : goal.returns-in-Refused
-returns-in-Refused c = refuses _ _ _ _ (walk_refused _ _ _ _ _ _ (rw c.in-Refused.is at c.walk_ballots-walked.ensures))
+returns-in-Refused c =
+    let w = refuses _ _ _ _ (walk_refused _ _ _ _ _ _ (rw c.in-Refused.is at c.walk_ballots-walked.ensures)) in
+    record { found_after = w.0; found_after_2 = w.1 }
 
 -- no ballot is refused, and these are the numbers
-module _ (c : tie.After-enum-told) where
-  abbrev numbers : List ℕ
-  numbers = c.before.before.before.before.walk_ballots.new.1.1.1.1.0
+abbrev numbers : (c : goal.In_default) → List ℕ
+numbers c = c.walk_ballots-walked.new.numbers
 
-  abbrev start : tie.Start
-  start = c.before.before.before.before.before.before.before.before.before.before
+sound : (c : goal.In_default) → find_in_ballots sha256 c.args.board.now c.args.digests.now ≡ numbers_found (numbers c)
+sound c = walk_sound _ _ _ _ c.requires.2 (rw c.in_default.is at c.walk_ballots-walked.ensures)
 
-  sound : find_in_ballots sha256 start.args.board.now start.args.digests.now ≡ numbers_found numbers
-  sound = walk_sound _ _ _ _ start.pre.2 (rw c.enum_told.given.1 at c.before.before.before.before.walk_ballots.ensures)
-
-  long : length numbers ≡ length start.args.found.now
-  long = numbers_long _ _ _ sound ∙ sym start.pre.3
+long : (c : goal.In_default) → length (numbers c) ≡ length c.args.found.now
+long c = numbers_long _ _ _ (sound c) ∙ sym c.requires.3
 
 pub returns : goal.returns
-returns c = lists _ _ _ _ (sound c) (long c) c.put_numbers.ensures
+returns c =
+    let w = lists _ _ _ _ (sound (goal.at.returns c).In_default) (long (goal.at.returns c).In_default) c.put_numbers.ensures in
+    record { found_after = w.0; found_after_2 = w.1 }
 
 pub put_numbers-requires : goal.put_numbers-requires
-put_numbers-requires c = omega (arith, long c)
+put_numbers-requires c = omega (arith, long (goal.at.put_numbers-requires c).In_default)

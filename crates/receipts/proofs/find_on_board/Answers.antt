@@ -13,7 +13,9 @@ told c r e = rw (c.ranked.ensures, e) at c.next_header-read.ensures
 
 pub returns-in-Refused : goal.returns-in-Refused
 unfolding HeaderReads
-returns-in-Refused c = refuses _ _ _ _ (header_refused _ _ c.in-Refused.why (told (goal.at.returns-in-Refused c).After-next_header-read _ c.in-Refused.is))
+returns-in-Refused c =
+    let w = refuses _ _ _ _ (header_refused _ _ c.in-Refused.why (told (goal.at.returns-in-Refused c).After-next_header-read _ c.in-Refused.is)) in
+    record { found_after = w.0; found_after_2 = w.1 }
 
 pub find_in_ballots-requires : goal.find_in_ballots-requires
 unfolding HeaderReads
@@ -25,4 +27,5 @@ pub returns : goal.returns
 unfolding HeaderReads
 returns c =
     let r = told (goal.at.returns c).After-next_header-read _ c.in-Board.is in
-    front_back c.args.count _ _ _ _ c.find_in_ballots.result r.0 c.requires.1 c.requires.3 c.find_in_ballots.ensures.found_after c.find_in_ballots.ensures.found_after_2
+    let w = front_back c.args.count _ _ _ _ c.find_in_ballots.result r.0 c.requires.1 c.requires.3 c.find_in_ballots.ensures.found_after c.find_in_ballots.ensures.found_after_2 in
+    record { found_after = w.0; found_after_2 = w.1 }

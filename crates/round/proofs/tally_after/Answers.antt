@@ -3,9 +3,7 @@ use borrow.Author.Rules.{rules}
 use Rattle.round.proofs.tally_after.Goals as goal
 
 pub with_row-requires : goal.with_row-requires
-with_row-requires c =
-    let p = c.requires in
-    (p.0.0, p.0.1, rw c.pairs_from.ensures (p.1 c.if-kind-ne-COUNTED.false), p.0.3, p.0.4, p.0.5)
+with_row-requires c = (c.requires.ready.0, c.requires.ready.1, rw c.pairs_from.ensures (c.requires.n_in_bounds c.if-kind-ne-COUNTED.false), c.requires.ready.3, c.requires.ready.4, c.requires.ready.5)
 
 pub returns-then-kind-ne-COUNTED : goal.returns-then-kind-ne-COUNTED
 returns-then-kind-ne-COUNTED c = record { row = λ z. absurd (c.if-kind-ne-COUNTED.true z); more = λ z. absurd (c.if-kind-ne-COUNTED.true z); same = λ _. refl }

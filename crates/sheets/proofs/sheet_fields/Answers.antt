@@ -23,9 +23,8 @@ loop-i-init c = (omega arith, omega arith, refl, refl, all_none _, refl, λ j l.
 -- what the walk learns of a count and of an exponent
 counted : (c : goal.In-Value) → let a = c.args in
     let l = c.loop-i in
-    let v = c.count-1.given.0 in
-    (leb (number2 a.board.now (a.at + 4 + 6 * l.i)) a.ballots ≡ true) × (v.1.0 ≡ a.at + 6 + 6 * l.i)
-    × (v.0 ≡ number2 a.board.now (a.at + 4 + 6 * l.i))
+    (leb (number2 a.board.now (a.at + 4 + 6 * l.i)) a.ballots ≡ true) × (c.in-Value.after ≡ a.at + 6 + 6 * l.i)
+    × (c.in-Value.count ≡ number2 a.board.now (a.at + 4 + 6 * l.i))
 counted c =
     let a = c.args in
     let l = c.loop-i in
@@ -34,11 +33,10 @@ counted c =
 
 raised : (c : goal.In-Value-exponent) → let a = c.args in
     let l = c.loop-i in
-    let v = c.x-1.given.0 in
-    (ltb (number4 a.board.now (a.at + 6 + 6 * l.i)) a.h.setup.group.q ≡ true) × (v.1.0 ≡ a.at + 4 + 6 * (l.i + 1))
-    × (v.0.0 ≡ number4 a.board.now (a.at + 6 + 6 * l.i))
+    (ltb (number4 a.board.now (a.at + 6 + 6 * l.i)) a.h.setup.group.q ≡ true) × (c.in-Value-exponent.end ≡ a.at + 4 + 6 * (l.i + 1))
+    × (c.in-Value-exponent.x.0 ≡ number4 a.board.now (a.at + 6 + 6 * l.i))
 raised c =
-    let counted : (let a = c.args in let l = c.loop-i in let v = c.count-1.given.0 in (leb (number2 a.board.now (a.at + 4 + 6 * l.i)) a.ballots ≡ true) × (v.1.0 ≡ a.at + 6 + 6 * l.i) × (v.0 ≡ number2 a.board.now (a.at + 4 + 6 * l.i))) = let a = c.args in let l = c.loop-i in let w = count_value a.board.now l.place a.ballots (sym c.count.ensures ∙ c.in-Value.is) in (rw (← l.invariant.1) w.0, omega (arith, w.1), rw (← l.invariant.1) w.2) in
+    let counted : (let a = c.args in let l = c.loop-i in (leb (number2 a.board.now (a.at + 4 + 6 * l.i)) a.ballots ≡ true) × (c.in-Value.after ≡ a.at + 6 + 6 * l.i) × (c.in-Value.count ≡ number2 a.board.now (a.at + 4 + 6 * l.i))) = let a = c.args in let l = c.loop-i in let w = count_value a.board.now l.place a.ballots (sym c.count.ensures ∙ c.in-Value.is) in (rw (← l.invariant.1) w.0, omega (arith, w.1), rw (← l.invariant.1) w.2) in
     let a = c.args in
     let e = counted.1 in
     let w = exponent_value a.board.now c.in-Value.after a.h.setup.group.q
@@ -63,7 +61,7 @@ returns-in_default-exponent c =
     let a = c.args in
     let l = c.loop-i in
     let k = counted (goal.at.returns-in_default-exponent c).In-Value in
-    exponent_large a.board.now a.h a.ballots a.at a.h.n l.i c.loop-i-test.true l.inv.4 k.0
+    exponent_large a.board.now a.h a.ballots a.at a.h.n l.i c.loop-i-test.true l.invariant.4 k.0
     (rw (← k.1) (exponent_refused a.board.now c.in-Value.after a.h.setup.group.q
     (sym c.exponent.ensures ∙ c.in_default-exponent.is)))
 
@@ -75,11 +73,11 @@ loop-i-preserved c =
     let x = raised c in (
       omega (arith, room c),
       x.1,
-      simp length-set l.inv.2,
-      simp length-set l.inv.3,
-      all_more _ _ l.inv.4 (rw k.0 x.0),
-      table_more (λ i. number2 a.board.now (a.at + 4 + 6 * i)) l.counts l.i _ (omega (arith, room c)) l.inv.5 k.2,
-      exponents_more (λ i. number4 a.board.now (a.at + 6 + 6 * i)) l.s l.i _ (omega (arith, room c)) l.inv.6 x.2,
+      simp length-set l.invariant.2,
+      simp length-set l.invariant.3,
+      all_more _ _ l.invariant.4 (rw k.0 x.0),
+      table_more (λ i. number2 a.board.now (a.at + 4 + 6 * i)) l.counts l.i _ (omega (arith, room c)) l.invariant.5 k.2,
+      exponents_more (λ i. number4 a.board.now (a.at + 6 + 6 * i)) l.s l.i _ (omega (arith, room c)) l.invariant.6 x.2,
     )
 
 pub returns : goal.returns

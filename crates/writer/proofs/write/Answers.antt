@@ -17,7 +17,7 @@ use Rattle.writer.specs.Steps.{Measured, Puts}
 use Rattle.writer.proofs.Outcomes.{measurable, measured, measured_rounds, draws_are, enough, repeats_are, stops_draws, stops_repeat, stops_room, refuses}
 use Rattle.writer.proofs.Boards.{bytes_for, can, sheeted, room, writes}
 use borrow.Author.Rules.{rules}
-use Rattle.writer.proofs.write.Goals.{After-draws_good, After-measure_of-m, After-new-setup, After-none_repeats-different, After-up_to_kinds-tested, Else-not-draws_good, In-Sound}
+use Rattle.writer.proofs.write.Goals.{After-draws_good, After-measure_of-m, After-new-setup, After-none_repeats-different, After-put_board-put, After-up_to_kinds-tested, Else-not-draws_good, In-Sound}
 use Rattle.writer.proofs.write.Goals as goal
 
 abbrev job_at : (c : goal.After-up_to_kinds-tested) → J.Job
@@ -63,18 +63,18 @@ fair c =
     record { passed = sound.0; drawn = sym draws_told ∙ c.if-not-draws_good.false }
 
 repeats_told : (c : goal.After-none_repeats-different) → let job : (J.Job) = let job_at : (J.Job) = let f = c.args in job_of f.job f.label.now f.rankings.now f.kinds.now f.draws.now in job_at in
-    c.none_repeats-different.result ≡ no_repeat (job (passed c))
+    c.none_repeats-different.result ≡ no_repeat job
 repeats_told c =
     let measured_is : (let job : (J.Job) = let job_at : (J.Job) = let f = c.args in job_of f.job f.label.now f.rankings.now f.kinds.now f.draws.now in job_at in Measured job c.count-ended.result c.measure_of-m.result) = let job : (J.Job) = let job_at : (J.Job) = let f = c.args in job_of f.job f.label.now f.rankings.now f.kinds.now f.draws.now in job_at in measured job _ _ c.count-ended.ensures c.measure_of-m.ensures in
     let job : (J.Job) = let job_at : (J.Job) = let f = c.args in job_of f.job f.label.now f.rankings.now f.kinds.now f.draws.now in job_at in
     repeats_are job _ _ (measured_rounds job measured_is) c.none_repeats-different.ensures
 
 group_is : (c : goal.After-new-setup) → let job : (J.Job) = let job_at : (J.Job) = let f = c.args in job_of f.job f.label.now f.rankings.now f.kinds.now f.draws.now in job_at in
-    parameters_of c.new-setup.result.group ≡ group_of sha256 (job (passed c))
+    parameters_of c.new-setup.result.group ≡ group_of sha256 job
 unfolding JobTested
 group_is c =
     let sound : (let job : (J.Job) = let job_at : (J.Job) = let f = c.args in job_of f.job f.label.now f.rankings.now f.kinds.now f.draws.now in job_at in Passed sha256 job × (parameters_of c.in-Sound.g ≡ group_of sha256 job)) = let told : (let job_at : (J.Job) = let f = c.args in job_of f.job f.label.now f.rankings.now f.kinds.now f.draws.now in (t : Tested) → c.up_to_kinds-tested.result ≡ t → JobTested job_at t) = λ t e. let job_at : (J.Job) = let f = c.args in job_of f.job f.label.now f.rankings.now f.kinds.now f.draws.now in subst (JobTested job_at) e (c.up_to_kinds-tested.ensures _) in told _ c.in-Sound.is in
-    ap parameters_of c.new-setup.ensures.0 ∙ (sound (passed c)).1
+    ap parameters_of c.new-setup.ensures.0 ∙ sound.1
 
 pub returns-in-Refused : goal.returns-in-Refused
 unfolding JobTested
@@ -102,36 +102,29 @@ put_board-put-requires c =
       header_length_le_length = room j v _ _ (measured_is (goal.at.put_board-put-requires c).After-measure_of-m) _ (group_is (goal.at.put_board-put-requires c).After-new-setup);
     }
 
--- where the board was to be put
-module _ (c : tie.After-put-board) where
-  abbrev compared : tie.After-none-repeats
-  compared = c.before.before.before
-
-  abbrev at : tie.After-measure-of
-  at = (drawn compared).before.before
-
-  abbrev bytes : List ℕ
-  bytes =
-      let g = at.before.before.before.count.result.count.gone in
-      bytes_for (job (passed at)) (parameters_of c.before.before.new.result.group) g.order (g.outs + 1)
+abbrev bytes : (c : goal.After-put_board-put) → List ℕ
+bytes c =
+    let job : (J.Job) = let job_at : (J.Job) = let f = c.args in job_of f.job f.label.now f.rankings.now f.kinds.now f.draws.now in job_at in
+    let g = c.count-ended.result.count.gone in
+    bytes_for job (parameters_of c.new-setup.result.group) g.order (g.outs + 1)
 
 pub returns-in-Written : goal.returns-in-Written
 returns-in-Written c =
-    let w = subst (Puts _ _ (bytes c) _ _) c.in-Written.is c.put_board-put.ensures in
-    writes (job (passed (at c))) (fair (drawn (compared c))) _ _ (measured_is (at c)) _ (group_is (goal.at.returns-in-Written c).After-new-setup) (sym (repeats_told (compared c)) ∙ w.0) _ _
+    let w = subst (Puts _ _ (bytes (goal.at.returns-in-Written c).After-put_board-put) _ _) c.in-Written.is c.put_board-put.ensures in
+    writes (job (goal.at.returns-in-Written c).In-Sound) (fair (goal.at.returns-in-Written c).Else-not-draws_good) _ _ (measured_is (goal.at.returns-in-Written c).After-measure_of-m) _ (group_is (goal.at.returns-in-Written c).After-new-setup) (sym (repeats_told (goal.at.returns-in-Written c).After-none_repeats-different) ∙ w.0) _ _
     c.board_written.result (w.1, w.2) c.board_written.ensures
 
 pub returns-in-Repeat : goal.returns-in-Repeat
 returns-in-Repeat c =
-    let j = job (passed (at c)) in
-    let w = subst (Puts _ _ (bytes c) _ _) c.in-Repeat.is c.put_board-put.ensures in
-    refuses j _ _ c.refused-in-Repeat.result 20 0 (stops_repeat j _ (fair (drawn (compared c))) (sym (repeats_told (compared c)) ∙ w.0)) c.refused-in-Repeat.ensures w.1
+    let j = job (goal.at.returns-in-Repeat c).In-Sound in
+    let w = subst (Puts _ _ (bytes (goal.at.returns-in-Repeat c).After-put_board-put) _ _) c.in-Repeat.is c.put_board-put.ensures in
+    refuses j _ _ c.refused-in-Repeat.result 20 0 (stops_repeat j _ (fair (goal.at.returns-in-Repeat c).Else-not-draws_good) (sym (repeats_told (goal.at.returns-in-Repeat c).After-none_repeats-different) ∙ w.0)) c.refused-in-Repeat.ensures w.1
 
 pub returns-in-Short : goal.returns-in-Short
 returns-in-Short c =
-    let j = job (passed (at c)) in
-    let w = subst (Puts _ _ (bytes c) _ _) c.in-Short.is c.put_board-put.ensures in
-    refuses j _ _ c.refused-in-Short.result 15 0 (stops_room j _ (fair (drawn (compared c))) (sym (repeats_told (compared c)) ∙ w.0) _ (measured_is (at c)).length w.1) c.refused-in-Short.ensures w.2
+    let j = job (goal.at.returns-in-Short c).In-Sound in
+    let w = subst (Puts _ _ (bytes (goal.at.returns-in-Short c).After-put_board-put) _ _) c.in-Short.is c.put_board-put.ensures in
+    refuses j _ _ c.refused-in-Short.result 15 0 (stops_room j _ (fair (goal.at.returns-in-Short c).Else-not-draws_good) (sym (repeats_told (goal.at.returns-in-Short c).After-none_repeats-different) ∙ w.0) _ (measured_is (goal.at.returns-in-Short c).After-measure_of-m).length w.1) c.refused-in-Short.ensures w.2
 
 pub count-ended-requires : goal.count-ended-requires
 count-ended-requires c = measurable (job c) (sound c).0
@@ -140,7 +133,7 @@ pub measure_of-m-requires : goal.measure_of-m-requires
 measure_of-m-requires c = let w = measurable (job (goal.at.measure_of-m-requires c).In-Sound) (sound (goal.at.measure_of-m-requires c).In-Sound).0 in (w.1, omega (arith, c.count-ended.ensures.2), w.2, w.4)
 
 pub new-setup-requires : goal.new-setup-requires
-new-setup-requires c = let t = passed c in group_positive (job t) _ (sound t).1 (sound t).0.ordered
+new-setup-requires c = group_positive (job (goal.at.new-setup-requires c).In-Sound) _ (sound (goal.at.new-setup-requires c).In-Sound).1 (sound (goal.at.new-setup-requires c).In-Sound).0.ordered
 
 pub board_written-requires : goal.board_written-requires
-board_written-requires c = (measured_is (at c)).kept
+board_written-requires c = (measured_is (goal.at.board_written-requires c).After-measure_of-m).kept

@@ -13,10 +13,9 @@ use Rattle.ballots.proofs.ballot.write_ballot.Goals as goal
 
 pub write_audit-requires : goal.write_audit-requires
 write_audit-requires c =
-    let p = c.requires in
     let b = c.args.b in
     let long = length_audited b.n b.kind (sym c.wide.ensures ∙ c.if-wide-ne-AUDITED.false) in
-    (p.0.2, simp (length-take, length-drop) (omega (arith, long, p.0.3, c.counted_length-at.ensures.0, c, c)), omega (arith, p.1.near), omega (arith, p.1.enough))
+    (c.requires.ready.2, simp (length-take, length-drop) (omega (arith, long, c.requires.ready.3, c.counted_length-at.ensures.0, c, c)), omega (arith, c.requires.draws_below.near), omega (arith, c.requires.draws_below.enough))
 
 pub returns-then-wide-ne-AUDITED : goal.returns-then-wide-ne-AUDITED
 returns-then-wide-ne-AUDITED c =

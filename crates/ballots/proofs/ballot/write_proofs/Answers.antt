@@ -14,7 +14,11 @@ use Rattle.ballots.proofs.ballot.write_proofs.Goals as goal
 pub write_lines-requires : goal.write_lines-requires
 write_lines-requires c =
     let p = c.requires.ready in
-    ((p.0, p.1, p.2, simp (length-take, length-drop) (omega (arith, p.3, c, c)), p.4), c.requires.1)
+    record {
+      ready = (p.0, p.1, p.2, simp (length-take, length-drop) (omega (arith, p.3)), p.4);
+      draws_below = c.requires.draws_below;
+      paged = c.requires.paged;
+    }
 
 pub returns : goal.returns
 returns c m fed =
@@ -28,7 +32,7 @@ pub overflow_mul-count : goal.overflow_mul-count
 overflow_mul-count c = omega (arith, cells c.args.b.n c.requires.ready.2)
 
 pub write_entries-requires : goal.write_entries-requires
-write_entries-requires c = let p = c.requires.ready in ((p.0, p.1, p.2, omega (arith, p.3), p.4), c.requires.1)
+write_entries-requires c = let p = c.requires.ready in record { ready = (p.0, p.1, p.2, omega (arith, p.3), p.4); draws_below = c.requires.draws_below; paged = c.requires.paged }
 
 pub overflow_mul-lines : goal.overflow_mul-lines
 overflow_mul-lines c = omega (arith, cells c.args.b.n c.requires.ready.2)

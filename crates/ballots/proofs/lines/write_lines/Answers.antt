@@ -21,7 +21,11 @@ loop-t-init c = (omega arith, refl, λ m f. none _)
 pub write_line-requires : goal.write_line-requires
 write_line-requires c =
     let p = c.requires.ready in
-    ((p.0, p.1, p.2, omega arith, simp (length-take, length-drop) (omega (arith, p.3, c.loop-t.invariant.1)), p.4), c.requires.1)
+    record {
+      ready = (p.0, p.1, p.2, omega arith, simp (length-take, length-drop) (omega (arith, p.3, c.loop-t.invariant.1)), p.4);
+      draws_below = c.requires.draws_below;
+      paged = c.requires.paged;
+    }
 
 pub loop-t-preserved : goal.loop-t-preserved
 loop-t-preserved c =

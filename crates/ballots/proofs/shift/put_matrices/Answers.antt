@@ -33,8 +33,8 @@ returns c =
     let n : length N ≤ 448 = omega (arith, length_pairs f.s.n (new_matrix g f.s f.draws.now) f.s.rows, count_few g f.s f.draws.now c.requires.0) in
     let l = f.page.now in
     let r = c.write_pairs in
-    let long : length r.new.0 ≡ length l = (front_stands B l _ r.ensures (omega (arith, c.requires.1))).0 in
-    let w = two_stand 512 (length r.new.0 - 512) l r.new.0 c.write_pairs-2.new.0 B N
+    let long : length r.new.out ≡ length l = (front_stands B l _ r.ensures (omega (arith, c.requires.1))).0 in
+    let w = two_stand 512 (length r.new.out - 512) l r.new.out c.write_pairs-2.new.out B N
     (omega (arith, long, c.requires.1)) r.ensures b (omega (arith, long, c.requires.1)) c.write_pairs-2.ensures in
     (w.0 ∙ c.requires.1, w.1, w.2)
 

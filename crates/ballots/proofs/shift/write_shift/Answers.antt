@@ -19,23 +19,21 @@ few c = let f = c.args in count_few (parameters_of f.g.group) f.s f.draws.now c.
 
 pub write_shift_proof-requires : goal.write_shift_proof-requires
 write_shift_proof-requires c =
-    let p = (start c).requires in
     let page = c.put_matrices.ensures in
     record {
-      ready = (p.0.0, p.0.1, simp (length-take, length-drop) (omega (arith, p.1, c, c)), omega (arith, page.0));
+      ready = (c.requires.ready.0, c.requires.ready.1, simp (length-take, length-drop) (omega (arith, c.requires.n_in_bounds, c, c)), omega (arith, page.0));
       paged = (page.1, page.2);
     }
 
 pub returns : goal.returns
 returns c =
-    let s = start c in
-    let f = s.args in
+    let f = c.args in
     let g = parameters_of f.g.group in
     let fed = fed_first _ _ f.label.now c.new.ensures c.update-labelled.ensures in
     let page = c.put_matrices in
-    let e = pairs_back page.last.0 512 f.s.rows f.s.n (512 + 8 * (f.s.rows * f.s.n) - 512) (new_matrix g f.s f.draws.now) (omega arith) page.ensures.2 in
-    more _ _ _ _ _ _ (shift_start g f.s f.draws.now s.pre.0.1 _ e) c.put_shift_front.ensures (c.write_shift_proof.ensures _ fed)
-    ∙ ap (λ (x : List ℕ). written x f.out.now) (shift_joined g f.s f.draws.now s.pre.0.1 f.label.now _ e)
+    let e = pairs_back page.new.page 512 f.s.rows f.s.n (512 + 8 * (f.s.rows * f.s.n) - 512) (new_matrix g f.s f.draws.now) (omega arith) page.ensures.2 in
+    more _ _ _ _ _ _ (shift_start g f.s f.draws.now c.requires.ready.1 _ e) c.put_shift_front.ensures (c.write_shift_proof.ensures _ fed)
+    ∙ ap (λ (x : List ℕ). written x f.out.now) (shift_joined g f.s f.draws.now c.requires.ready.1 f.label.now _ e)
 
 pub overflow_mul-count : goal.overflow_mul-count
 overflow_mul-count c = omega (arith, few c)
@@ -65,10 +63,10 @@ pub overflow_add-at : goal.overflow_add-at
 overflow_add-at c = omega (arith, few (goal.at.overflow_add-at c).After-struct_known-1)
 
 pub slice_bounds-write_shift_proof-count : goal.slice_bounds-write_shift_proof-count
-slice_bounds-write_shift_proof-count c = omega (arith, (start c).requires.1, c, c)
+slice_bounds-write_shift_proof-count c = omega (arith, c.requires.n_in_bounds, c, c)
 
 pub slice_bounds-write_shift_proof-start : goal.slice_bounds-write_shift_proof-start
-slice_bounds-write_shift_proof-start c = omega (arith, (start c).requires.1, c, c)
+slice_bounds-write_shift_proof-start c = omega (arith, c.requires.n_in_bounds, c, c)
 
 pub slice_bounds-write_shift_proof-end : goal.slice_bounds-write_shift_proof-end
-slice_bounds-write_shift_proof-end c = omega (arith, (start c).requires.1, c, c)
+slice_bounds-write_shift_proof-end c = omega (arith, c.requires.n_in_bounds, c, c)

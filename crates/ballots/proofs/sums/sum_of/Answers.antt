@@ -6,6 +6,7 @@ use Rattle.numbers.specs.Below.{sum_below}
 use Rattle.ballots.specs.Parts.{sum_but}
 use Rattle.ballots.proofs.Secrets.{sum_more, sum_passed, stride_up}
 use borrow.Author.Rules.{rules}
+use Rattle.ballots.proofs.sums.sum_of.Goals.{else-i-but, then-i-but}
 use Rattle.ballots.proofs.sums.sum_of.Goals as goal
 
 pub loop-i-init : goal.loop-i-init
@@ -16,10 +17,10 @@ pub loop-i-preserved : goal.loop-i-preserved
 loop-i-preserved c =
     let l = c.loop-i in
     let f = c.args in
-    ⊎_elim
-    (λ w. (omega arith, rw w.2 (omega (arith, w.1.given (f.at + f.stride * l.i))), w.2 ∙ sum_more f.draws.now f.at f.stride f.but l.i l.sum l.invariant.2 w.0.true))
-    (λ w. (omega arith, rw w.1 (omega arith), w.1 ∙ sum_passed f.draws.now f.at f.stride f.but l.i l.sum l.invariant.2 w.0.false))
-    c.if-i-but.branch-raw
+    (elim c.if-i-but.branch [
+          then-i-but w ↦ (omega arith, rw w.sum-is (omega (arith, w.shared_slice_known-then-i-but-1.given (f.at + f.stride * l.i))), w.sum-is ∙ sum_more f.draws.now f.at f.stride f.but l.i l.sum l.invariant.2 w.if-i-but.true)
+        | else-i-but w ↦ (omega arith, rw w.sum-is (omega arith), w.sum-is ∙ sum_passed f.draws.now f.at f.stride f.but l.i l.sum l.invariant.2 w.if-i-but.false)
+        ])
 
 pub overflow_mul-sum : goal.overflow_mul-sum
 overflow_mul-sum c = omega (arith, stride_up c.args.stride c.loop-i.i c.args.count (omega arith), c)

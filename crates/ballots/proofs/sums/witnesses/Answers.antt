@@ -7,21 +7,21 @@ use Rattle.ballots.specs.Parts.{Witnessed}
 use Rattle.statements.proofs.Lines.{row_below}
 use Rattle.ballots.proofs.Secrets.{witnessed_none, witnessed_more, witness_first, witness_second, witness_later, source_within}
 use borrow.Author.Rules.{rules}
+use Rattle.ballots.proofs.sums.witnesses.Goals.{After-shared_slice_known-1, After-source_of-from}
 use Rattle.ballots.proofs.sums.witnesses.Goals as goal
 
 few : (rows n : ℕ) → rows < 8 → n ≤ 8 → rows * n ≤ 56
 few rows n h k = let u : rows * n ≤ 7 * n = mul-le-mul_right n (omega arith) in omega arith
 
 -- the struck row is within the matrix before
-module _ (c : tie.After-shared-slice-known invariant_loop decreases_loop) where
-  row_in : c.before.args.s.struck * c.before.args.s.n + c.before.args.s.n ≤ (c.before.args.s.rows + 1) * c.before.args.s.n
-  row_in = let s = c.before in row_below (s.args.s.rows + 1) s.args.s.n s.args.s.struck (omega (arith, s.requires.0))
+row_in : (c : goal.After-shared_slice_known-1) → c.args.s.struck * c.args.s.n + c.args.s.n ≤ (c.args.s.rows + 1) * c.args.s.n
+row_in c = row_below (c.args.s.rows + 1) c.args.s.n c.args.s.struck (omega (arith, c.requires.n_nonzero))
 
-  row_near : c.before.args.s.old + c.before.args.s.struck * c.before.args.s.n + c.before.args.s.n < 2 ^ 40
-  row_near = omega (arith, row_in, c.before.requires.1.0.near)
+row_near : (c : goal.After-shared_slice_known-1) → c.args.s.old + c.args.s.struck * c.args.s.n + c.args.s.n < 2 ^ 40
+row_near c = omega (arith, (row_in c), c.requires.draws_below.0.near)
 
-  row_there : c.before.args.s.old + c.before.args.s.struck * c.before.args.s.n + c.before.args.s.n ≤ length c.before.args.draws.now
-  row_there = omega (arith, row_in, c.before.requires.1.0.enough)
+row_there : (c : goal.After-shared_slice_known-1) → c.args.s.old + c.args.s.struck * c.args.s.n + c.args.s.n ≤ length c.args.draws.now
+row_there c = omega (arith, (row_in c), c.requires.draws_below.0.enough)
 
 pub loop-c-init : goal.loop-c-init
 loop-c-init c =
@@ -36,16 +36,13 @@ loop-c-init c =
     )
 
 -- the pair before is within the matrix before
-module _ (c : tie.After-source-of invariant_loop decreases_loop) where
-  source_in : c.source_of.result < (c.before.before.before.before.before.before.args.s.rows + 1) * c.before.before.before.before.before.before.args.s.n
-  source_in =
-      let s = c.before.before.before.before.before.before in
-      rw c.source_of.ensures (source_within s.args.s.n s.args.s.rows s.args.s.struck c.before.before.loop.c (omega (arith, s.requires.0)) (omega (arith, c.before.before.loop.invariant.2, c.before.loop_test.true)))
+source_in : (c : goal.After-source_of-from) → c.source_of-from.result < (c.args.s.rows + 1) * c.args.s.n
+source_in c = rw c.source_of-from.ensures (source_within c.args.s.n c.args.s.rows c.args.s.struck c.loop-c.c (omega (arith, c.requires.n_nonzero)) (omega (arith, c.loop-c.invariant.2, c.loop-c-test.true)))
 
 pub past-requires : goal.past-requires
 past-requires c =
     let p = c.requires.draws_below.0 in
-    (p.positive, p.below (c.args.s.old + c.source_of-from.result) (omega (arith, source_in c)))
+    (p.positive, p.below (c.args.s.old + c.source_of-from.result) (omega (arith, source_in (goal.at.past-requires c).After-source_of-from)))
 
 pub loop-c-preserved : goal.loop-c-preserved
 loop-c-preserved c =
@@ -83,10 +80,10 @@ pub offset_bounds-draws-row : goal.offset_bounds-draws-row
 offset_bounds-draws-row c = omega (arith, row_near c)
 
 pub bounds-draws-row : goal.bounds-draws-row
-bounds-draws-row c = omega (arith, row_there c, c.requires.n_nonzero)
+bounds-draws-row c = omega (arith, row_there (goal.at.bounds-draws-row c).After-shared_slice_known-1, c.requires.n_nonzero)
 
 pub sum_of-requires : goal.sum_of-requires
-sum_of-requires c = let p = c.requires in (p.1.0.positive, omega (arith, p.0), omega arith, omega (arith, row_near c), omega (arith, row_there c, p.0))
+sum_of-requires c = (c.requires.draws_below.0.positive, omega (arith, c.requires.n_nonzero), omega arith, omega (arith, row_near (goal.at.sum_of-requires c).After-shared_slice_known-1), omega (arith, row_there (goal.at.sum_of-requires c).After-shared_slice_known-1, c.requires.n_nonzero))
 
 pub source_of-from-requires : goal.source_of-from-requires
 source_of-from-requires c = (omega (arith, c.requires.n_nonzero), omega (arith, c.requires.n_nonzero, c.loop-c.invariant.1))
@@ -101,13 +98,13 @@ pub bounds-draws-new : goal.bounds-draws-new
 bounds-draws-new c = omega (arith, c.requires.draws_below.1.enough, c.loop-c.invariant.2, c.loop-c-test.true)
 
 pub overflow_add-y : goal.overflow_add-y
-overflow_add-y c = omega (arith, c.requires.draws_below.0.near, source_in c)
+overflow_add-y c = omega (arith, c.requires.draws_below.0.near, source_in (goal.at.overflow_add-y c).After-source_of-from)
 
 pub offset_bounds-draws-old : goal.offset_bounds-draws-old
-offset_bounds-draws-old c = omega (arith, c.requires.draws_below.0.near, source_in c)
+offset_bounds-draws-old c = omega (arith, c.requires.draws_below.0.near, source_in (goal.at.offset_bounds-draws-old c).After-source_of-from)
 
 pub bounds-draws-old : goal.bounds-draws-old
-bounds-draws-old c = omega (arith, c.requires.draws_below.0.enough, source_in c)
+bounds-draws-old c = omega (arith, c.requires.draws_below.0.enough, source_in (goal.at.bounds-draws-old c).After-source_of-from)
 
 pub overflow_add-w-in-loop-c : goal.overflow_add-w-in-loop-c
 overflow_add-w-in-loop-c c = omega (arith, c.loop-c.invariant.1, c.loop-c-test.true)

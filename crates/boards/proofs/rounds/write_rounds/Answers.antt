@@ -63,14 +63,14 @@ loop-m-preserved c =
     let m = c.measure_round-round.ensures in
     let size = c.sheet_length.ensures in (
       omega (arith, c.loop-m-test.true),
-      l.inv.1,
+      l.invariant.1,
       search rules,
-      omega (arith, length_more job.n (kind_of job) job.K l.m (l.at + 54) _ _ l.inv.3 m.1 size.0),
-      omega (arith, l.inv.4, m.3, size.1),
-      draws_more job.n (kind_of job) job.K l.m l.new _ l.inv.5 m.0,
-      λ j e. let z : l.m ≡ j = omega arith in l.inv.5 ∙ ap (draws_before job) z,
-      omega (arith, l.inv.5, near (goal.at.loop-m-preserved c).In-loop-m),
-      rounds_more sha256 job g f.count.gone.order l.m l.at _ l.out _ _ l.inv.3 l.inv.8
+      omega (arith, length_more job.n (kind_of job) job.K l.m (l.at + 54) _ _ l.invariant.3 m.1 size.0),
+      omega (arith, l.invariant.4, m.3, size.1),
+      draws_more job.n (kind_of job) job.K l.m l.new _ l.invariant.5 m.0,
+      λ j e. let z : l.m ≡ j = omega arith in l.invariant.5 ∙ ap (draws_before job) z,
+      omega (arith, l.invariant.5, near (goal.at.loop-m-preserved c).In-loop-m),
+      rounds_more sha256 job g f.count.gone.order l.m l.at _ l.out _ _ l.invariant.3 l.invariant.8
           (plan_is sha256 job g f.count l.m _ _ _ p c.requires.2 (omega (arith, below (goal.at.loop-m-preserved c).In-loop-m))) c.write_round.ensures,
     )
 
@@ -105,10 +105,10 @@ pub overflow_add-at : goal.overflow_add-at
 overflow_add-at c = omega (arith, c.measure_round-round.ensures.3, c.sheet_length.ensures.1)
 
 pub overflow_add-at-in-loop-m : goal.overflow_add-at-in-loop-m
-overflow_add-at-in-loop-m c = omega (arith, c.measure_round-round.ensures.3, c.sheet_length.ensures.1, c.loop-m.inv.4, below (goal.at.overflow_add-at-in-loop-m c).In-loop-m)
+overflow_add-at-in-loop-m c = omega (arith, c.measure_round-round.ensures.3, c.sheet_length.ensures.1, c.loop-m.invariant.4, below (goal.at.overflow_add-at-in-loop-m c).In-loop-m)
 
 pub overflow_add-new : goal.overflow_add-new
-overflow_add-new c = omega (arith, c.measure_round-round.ensures.2, c.loop-m.inv.5, near (goal.at.overflow_add-new c).In-loop-m)
+overflow_add-new c = omega (arith, c.measure_round-round.ensures.2, c.loop-m.invariant.5, near (goal.at.overflow_add-new c).In-loop-m)
 
 pub overflow_step-m : goal.overflow_step-m
 overflow_step-m c = omega (arith, below (goal.at.overflow_step-m c).In-loop-m)

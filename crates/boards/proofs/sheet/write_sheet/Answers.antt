@@ -38,7 +38,7 @@ returns c =
 
 pub column_sum-sum-requires : goal.column_sum-sum-requires
 column_sum-sum-requires c =
-    let p = c.requires in record {
-      q_nonzero = (p.0.0, p.0.1, p.0.2, p.0.3, p.0.4, omega (arith, p.0));
-      by_index = λ b h k. omega (arith, p.1 b h k);
+    record {
+      q_nonzero = (c.requires.q_nonzero.0, c.requires.q_nonzero.1, c.requires.q_nonzero.2, c.requires.q_nonzero.3, c.requires.q_nonzero.4, omega (arith, c.requires.q_nonzero));
+      by_index = λ b h k. omega (arith, c.requires.by_index b h k);
     }

@@ -21,29 +21,27 @@ use Rattle.proving.proofs.branch.commit_branch.Goals.{After-slice_known-2-1}
 use Rattle.proving.proofs.branch.commit_branch.Goals as goal
 
 -- the nonces or responses are all there
-fits : (c : goal.After-slice_known-2-1) → let f = (start c).args in
+fits : (c : goal.After-slice_known-2-1) → let f = c.args in
     (c.after_challenge-first.result + f.branch.plan.statements ≤ length f.draws.now) × (length f.draws.now * 4 < 2 ^ 64)
     × (4 + 12 * f.branch.plan.statements ≤ length f.out.now) × (length f.out.now < 2 ^ 64)
-fits c =
-    let s = start c in (
-      draft_fits _ s.args.branch.plan s.args.draws.now s.pre.0.1.drawn s.args.branch.l s.pre.1.0 _ s.pre.1.1 _ c.after_challenge-first.ensures,
-      omega (arith, s.good),
-      s.pre.1.2,
-      omega (arith, s.good),
-    )
+fits c = (
+  draft_fits _ c.args.branch.plan c.args.draws.now c.requires.ready.1.drawn c.args.branch.l c.requires.l_lt_branches.0 _ c.requires.l_lt_branches.1 _ c.after_challenge-first.ensures,
+  omega (arith, c.well_formed),
+  c.requires.l_lt_branches.2,
+  omega (arith, c.well_formed),
+)
 
 pub put_draft-next-requires : goal.put_draft-next-requires
-put_draft-next-requires c =
-    let s = start c in (
-      simp (length-take, length-drop) (omega (arith, fits (goal.at.put_draft-next-requires c).After-slice_known-2-1, c.loop-i.invariant.1)),
-      s.pre.0.0.p_pos,
-      draft_low _ s.args.branch.plan s.args.draws.now s.pre.0.1.drawn s.args.branch.l s.pre.1.0 _ s.pre.1.1 _ c.first_challenge-e.ensures,
-    )
+put_draft-next-requires c = (
+  simp (length-take, length-drop) (omega (arith, fits (goal.at.put_draft-next-requires c).After-slice_known-2-1, c.loop-i.invariant.1)),
+  c.requires.ready.0.p_pos,
+  draft_low _ c.args.branch.plan c.args.draws.now c.requires.ready.1.drawn c.args.branch.l c.requires.l_lt_branches.0 _ c.requires.l_lt_branches.1 _ c.first_challenge-e.ensures,
+)
 
 pub loop-i-preserved : goal.loop-i-preserved
 loop-i-preserved c =
     let l = c.loop-i in
-    let f = (start c).args in
+    let f = c.args in
     let g = parameters_of f.g.group in
     let cl = claim_of f.page.now g f.branch.plan.claim f.branch.l in
     let e = c.first_challenge-e.result.0 in
@@ -60,11 +58,10 @@ loop-i-preserved c =
 pub returns : goal.returns
 returns c =
     let l = c.loop-i in
-    let s = start c in
-    let f = s.args in
+    let f = c.args in
     let g = parameters_of f.g.group in
     let n : l.i ≡ f.branch.plan.statements = omega arith in
-    drafted_branch g (claim_of f.page.now g f.branch.plan.claim) f.branch.plan f.draws.now f.branch.l _ _ f.branch.at _ _ _ _ _ _ n s.pre.1.1
+    drafted_branch g (claim_of f.page.now g f.branch.plan.claim) f.branch.plan f.draws.now f.branch.l _ _ f.branch.at _ _ _ _ _ _ n c.requires.l_lt_branches.1
     c.first_challenge-e.ensures c.after_challenge-first.ensures
     (record { wrote = l.invariant.2 _ c.put_number4.ensures; fed = l.invariant.3 })
 
@@ -82,9 +79,9 @@ loop-i-init c = (omega arith, refl, λ o h. h ∙ branch_none _ _ _ o, λ m h. f
 
 pub claimed-s-requires : goal.claimed-s-requires
 claimed-s-requires c =
-    let s = start c in record {
-      ready = s.pre.0.0;
-      within = s.pre.0.1.ready s.args.branch.l c.loop-i.i s.pre.1.0 (omega arith);
+    record {
+      ready = c.requires.ready.0;
+      within = c.requires.ready.1.ready c.args.branch.l c.loop-i.i c.requires.l_lt_branches.0 (omega arith);
     }
 
 pub overflow_mul-place : goal.overflow_mul-place

@@ -25,9 +25,9 @@ invariant-loop-i l =
     let cl = claim_of l.page (parameters_of l.g.group) l.claim l.l in
     let r : ℕ → ℕ = λ i. get_or l.draws (l.first + i) 0 in
     let t : ℕ → Commitments = λ i. drafted (parameters_of l.g.group) (cl i) l.known e (r i) in
-    (i ≤ l.statements) × (length l.out ≡ length l.initial.out)
-    × ((o : List ℕ) → l.initial.out ≡ written (bytes4 e) o → l.out ≡ written (branch_bytes e i (λ i. commitment_bytes (t i)) r) o)
-    × ((m : List ℕ) → Fed l.initial.k m → Fed l.k (m ++ branch_said i cl t))
+    (l.i ≤ l.statements) × (length l.out ≡ length l.initial.out)
+    × ((o : List ℕ) → l.initial.out ≡ written (bytes4 e) o → l.out ≡ written (branch_bytes e l.i (λ i. commitment_bytes (t i)) r) o)
+    × ((m : List ℕ) → Fed l.initial.k m → Fed l.k (m ++ branch_said l.i cl t))
 
 abbrev pub decreases-loop-i : goal.decreases-loop-i
 decreases-loop-i l = l.statements - l.i

@@ -26,50 +26,39 @@ some c = omega (arith, c.requires.0.low)
 pub returns-in-Refused : goal.returns-in-Refused
 returns-in-Refused c = wrong_frame (ballot_table _ c.args.h _ (some (goal.at.returns-in-Refused c).After-kind-kind) _) _ (rw c.in-Refused.is at c.ballot_frame-framed.ensures)
 
--- what the fields and the proofs were found to be
-module _ (c : tie.Else1) where
-  abbrev told : tie.After-enum-told
-  told = c.before.before
-
-  abbrev kind : tie.After-kind
-  kind = told.before.before.before.before
-
 pub returns-then-not-ballot_fields : goal.returns-then-not-ballot_fields
 returns-then-not-ballot_fields c =
     wrong_field (ballot_table _ c.args.h _ (some (goal.at.returns-then-not-ballot_fields c).After-kind-kind) _) (framed (goal.at.returns-then-not-ballot_fields c).In_default)
     (rw (← c.kind-kind.ensures) (sym c.ballot_fields.ensures ∙ c.if-not-ballot_fields.true))
 
 pub ballot_proofs-requires : goal.ballot_proofs-requires
-ballot_proofs-requires c = ((kind c).before.before.requires.0, omega (arith, fits (told c)))
+ballot_proofs-requires c = (c.requires.0, omega (arith, fits (goal.at.ballot_proofs-requires c).In_default))
 
 pub returns-then-not-ballot_proofs : goal.returns-then-not-ballot_proofs
 returns-then-not-ballot_proofs c =
-    let k = kind c in
-    wrong_proof (ballot_table _ k.before.before.args.h _ (some k) _) (framed (told c))
-    (rw (← k.kind.ensures) (sym c.ballot_fields.ensures ∙ c.if-not-ballot_fields.false)) (sym c.ballot_proofs.ensures ∙ c.if-not-ballot_proofs.true)
+    wrong_proof (ballot_table _ c.args.h _ (some (goal.at.returns-then-not-ballot_proofs c).After-kind-kind) _) (framed (goal.at.returns-then-not-ballot_proofs c).In_default)
+    (rw (← c.kind-kind.ensures) (sym c.ballot_fields.ensures ∙ c.if-not-ballot_fields.false)) (sym c.ballot_proofs.ensures ∙ c.if-not-ballot_proofs.true)
 
 pub shown_good-requires : goal.shown_good-requires
-shown_good-requires c = ((kind c).before.before.requires.0, fits (told c))
+shown_good-requires c = (c.requires.0, fits (goal.at.shown_good-requires c).In_default)
 
 pub returns-then-not-shown_good : goal.returns-then-not-shown_good
 returns-then-not-shown_good c =
-    let k = kind c in
-    wrong_opening (ballot_table _ k.before.before.args.h _ (some k) _) (framed (told c))
-    (rw (← k.kind.ensures) (sym c.ballot_fields.ensures ∙ c.if-not-ballot_fields.false))
+    wrong_opening (ballot_table _ c.args.h _ (some (goal.at.returns-then-not-shown_good c).After-kind-kind) _) (framed (goal.at.returns-then-not-shown_good c).In_default)
+    (rw (← c.kind-kind.ensures) (sym c.ballot_fields.ensures ∙ c.if-not-ballot_fields.false))
     (sym c.ballot_proofs.ensures ∙ c.if-not-ballot_proofs.false)
-    (rw (← k.kind.ensures) (sym c.shown_good.ensures ∙ c.if-not-shown_good.true))
+    (rw (← c.kind-kind.ensures) (sym c.shown_good.ensures ∙ c.if-not-shown_good.true))
 
 pub returns : goal.returns
 returns c =
-    let k = kind c in
-    all_sound (ballot_table _ k.before.before.args.h _ (some k) _) (framed (told c))
-    (rw (← k.kind.ensures) (sym c.ballot_fields.ensures ∙ c.if-not-ballot_fields.false))
+    all_sound (ballot_table _ c.args.h _ (some (goal.at.returns c).After-kind-kind) _) (framed (goal.at.returns c).In_default)
+    (rw (← c.kind-kind.ensures) (sym c.ballot_fields.ensures ∙ c.if-not-ballot_fields.false))
     (sym c.ballot_proofs.ensures ∙ c.if-not-ballot_proofs.false)
-    (rw (← k.kind.ensures) (sym c.shown_good.ensures ∙ c.if-not-shown_good.false))
-    _ (omega (arith, (told c).before.before.before.ballot_length.ensures.0, ap (λ (x : ℕ). ballot_length k.before.before.args.h.n x) k.kind.ensures))
+    (rw (← c.kind-kind.ensures) (sym c.shown_good.ensures ∙ c.if-not-shown_good.false))
+    _ (omega (arith, c.ballot_length-size.ensures.0, ap (λ (x : ℕ). ballot_length c.args.h.n x) c.kind-kind.ensures))
 
 pub ballot_fields-requires : goal.ballot_fields-requires
 ballot_fields-requires c = (c.requires.0, fits c)
 
 pub overflow_add-result : goal.overflow_add-result
-overflow_add-result c = omega (arith, fits (told c), (told c).before.before.before.ballot_length.ensures, (kind c).before.before.good)
+overflow_add-result c = omega (arith, fits (goal.at.overflow_add-result c).In_default, c.ballot_length-size.ensures, c.well_formed)

@@ -37,10 +37,9 @@ returns-then-not-fields_good c =
 pub shift_proof-requires : goal.shift_proof-requires
 unfolding Framed
 shift_proof-requires c =
-    let pre = c.requires in
     record {
-      header_known = (pre.0.0, pre.0.2, pre.0.3, omega arith);
-      n_in_bounds = (pre.1, (framed (goal.at.shift_proof-requires c).In_default).0);
+      header_known = (c.requires.header_known.0, c.requires.header_known.2, c.requires.header_known.3, omega arith);
+      n_in_bounds = (c.requires.n_in_bounds, (framed (goal.at.shift_proof-requires c).In_default).0);
     }
 
 pub returns-then-not-shift_proof : goal.returns-then-not-shift_proof

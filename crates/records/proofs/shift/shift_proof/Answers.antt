@@ -24,16 +24,15 @@ inverse_table-inverses-requires c =
 pub proof_good-requires : goal.proof_good-requires
 unfolding Within
 proof_good-requires c =
-    let pre = c.requires in
     let table = c.inverse_table-inverses.ensures in record {
-      header_known = pre.0.0;
+      header_known = c.requires.header_known.0;
       statements_in_bounds = omega arith;
       by_index = λ l i hl hi.
           record {
-            column = pre.0.3;
+            column = c.requires.header_known.3;
             branch = omega arith;
             statement = hi;
-            earlier = pre.1.0;
+            earlier = c.requires.n_in_bounds.0;
             later = omega arith;
             long_enough = omega (arith, table.long, small (goal.at.proof_good-requires c).After-group-1);
             inverted = λ u b. table.inverted u (omega arith);

@@ -24,7 +24,7 @@ loop-i-preserved c =
     let a = c.args in
     let l = c.loop-i in
     let p = c.put_next-next in
-    let put : Put (next_text l.first (name_of a.lent.now l.i) (count_of (take a.n a.sheet.counts) (suc l.i))) l.next l.out p.new.0 p.result =
+    let put : Put (next_text l.first (name_of a.lent.now l.i) (count_of (take a.n a.sheet.counts) (suc l.i))) l.next l.out p.new.out p.result =
     rw (← c.name.ensures, ← count_at_lem a.n l.i a.sheet.counts (omega arith)) p.ensures in
     (omega arith, listing_in _ _ _ _ _ _ _ _ _ l.invariant.1 (sym c.is_out.ensures ∙ c.if-is_out.false) _ _ put)
 

@@ -17,7 +17,7 @@ put-colon-requires c =
     rw c.low16.ensures (omega (arith, opening_long c.args.m, c.requires.1, p.ensures.ends, p.ensures.long))
 
 -- the number, with its own digits
-number : (c : goal.After-put-colon) → let m = c.args.m in Put (decimal (m + 1)) c.put-number.result c.put-number.new.0 c.put-colon.new.0 c.put-colon.result
+number : (c : goal.After-put-colon) → let m = c.args.m in Put (decimal (m + 1)) c.put-number.result c.put-number.new.out c.put-colon.new.out c.put-colon.result
 number c = rw (← c.low16.ensures) c.put-colon.ensures
 
 pub put-requires : goal.put-requires

@@ -1,3 +1,0 @@
--- Laws that the proofs over a reading cite.
-pub mod Frame
-pub mod Held
