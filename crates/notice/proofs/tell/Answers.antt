@@ -13,8 +13,9 @@ use Rattle.notice.proofs.tell.Goals as goal
 
 pub returns-then-not-read : goal.returns-then-not-read
 returns-then-not-read c =
-    unchanged _ _ _ _ (names_bad c.args.n c.args.names.now (result_of c.args.n c.args.ended) (length c.args.out.now)
-    (sym c.read_names-read.ensures.tested ∙ not-true _ c.if-not-read.true))
+    let w = unchanged _ _ _ _ (names_bad c.args.n c.args.names.now (result_of c.args.n c.args.ended) (length c.args.out.now)
+    (sym c.read_names-read.ensures.tested ∙ not-true _ c.if-not-read.true)) in
+    record { out_after = w.0; out_after_2 = w.1 }
 
 -- the names are good, and so what is to be told is ready
 good : (c : goal.Else-not-read) → c.read_names-read.result.good ≡ true
@@ -30,13 +31,15 @@ tested c = sym c.read_names-read.ensures.tested ∙ good c
 
 pub returns-then-out-length : goal.returns-then-out-length
 returns-then-out-length c =
-    unchanged _ _ _ _ (too_short c.args.n c.args.names.now (result_of c.args.n c.args.ended) (length c.args.out.now) (tested (goal.at.returns-then-out-length c).Else-not-read)
-    (omega (arith, c.text_length-length.ensures)))
+    let w = unchanged _ _ _ _ (too_short c.args.n c.args.names.now (result_of c.args.n c.args.ended) (length c.args.out.now) (tested (goal.at.returns-then-out-length c).Else-not-read)
+    (omega (arith, c.text_length-length.ensures))) in
+    record { out_after = w.0; out_after_2 = w.1 }
 
 pub returns : goal.returns
 returns c =
-    told_is c.args.n c.args.names.now (result_of c.args.n c.args.ended) (length c.args.out.now) (tested (goal.at.returns c).Else-not-read)
-    (omega (arith, c.text_length-length.ensures, c.if-out-length.false)) _ _ _ c.text_length-length.ensures c.put_text.ensures
+    let w = told_is c.args.n c.args.names.now (result_of c.args.n c.args.ended) (length c.args.out.now) (tested (goal.at.returns c).Else-not-read)
+    (omega (arith, c.text_length-length.ensures, c.if-out-length.false)) _ _ _ c.text_length-length.ensures c.put_text.ensures in
+    record { out_after = w.0; out_after_2 = w.1 }
 
 pub text_length-length-requires : goal.text_length-length-requires
 text_length-length-requires c = ready c

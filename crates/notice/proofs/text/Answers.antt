@@ -24,4 +24,5 @@ returns-in-Accepted c =
 pub returns-in-Refused : goal.returns-in-Refused
 returns-in-Refused c =
     let r = c.count_board-counted in
-    unchanged _ _ _ _ (refused_alike c.args.board.now c.args.names.now (length c.args.out.now) r.result r.ensures _ _ c.in-Refused.is)
+    let w = unchanged _ _ _ _ (refused_alike c.args.board.now c.args.names.now (length c.args.out.now) r.result r.ensures _ _ c.in-Refused.is) in
+    record { out_after = w.0; out_after_2 = w.1 }

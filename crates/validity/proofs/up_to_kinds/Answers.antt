@@ -37,16 +37,16 @@ sized c =
 ordered : (c : goal.Else-not-orders_good) → let j = c.args.job in orders j.n j.k j.p j.q ≡ true
 ordered c = sym c.orders_good.ensures ∙ c.if-not-orders_good.false
 
-label_told : (c : goal.After-label_good) (draws : List ℕ) → c.label_good.result ≡ label_good sha256 (job_at c.before.before.before.before.before.before.before.before.before.before draws)
-label_told c draws = label_is (job_at c.before.before.before.before.before.before.before.before.before.before draws) _ _ c.label_good.ensures c.group_of-g.ensures
+label_told : (c : goal.After-label_good) (draws : List ℕ) → c.label_good.result ≡ label_good sha256 (job_at c.before.before.before.before.before.before.before.before.before.before.before draws)
+label_told c draws = label_is (job_at c.before.before.before.before.before.before.before.before.before.before.before draws) _ _ c.label_good.ensures c.group_of-g.ensures
 
-labelled : (c : goal.Else-not-label_good) (draws : List ℕ) → label_good sha256 (job_at c.before.before.before.before.before.before.before.before.before.before.before draws) ≡ true
+labelled : (c : goal.Else-not-label_good) (draws : List ℕ) → label_good sha256 (job_at c.before.before.before.before.before.before.before.before.before.before.before.before draws) ≡ true
 labelled c draws =
-    let label_told : ((draws : List ℕ) → c.label_good.result ≡ label_good sha256 (job_at c.before.before.before.before.before.before.before.before.before.before.before draws)) = λ draws. label_is (job_at c.before.before.before.before.before.before.before.before.before.before.before draws) _ _ c.label_good.ensures c.group_of-g.ensures in
+    let label_told : ((draws : List ℕ) → c.label_good.result ≡ label_good sha256 (job_at c.before.before.before.before.before.before.before.before.before.before.before.before draws)) = λ draws. label_is (job_at c.before.before.before.before.before.before.before.before.before.before.before.before draws) _ _ c.label_good.ensures c.group_of-g.ensures in
     sym (label_told draws) ∙ c.if-not-label_good.false
 
-bad_is : (c : goal.After-first_bad-bad) (draws : List ℕ) → c.first_bad-bad.result ≡ first_bad (job_at c.before.before.before.before.before.before.before.before.before.before.before.before.before draws) c.args.job.k
-bad_is c draws = c.first_bad-bad.ensures (job_at c.before.before.before.before.before.before.before.before.before.before.before.before.before draws) refl refl
+bad_is : (c : goal.After-first_bad-bad) (draws : List ℕ) → c.first_bad-bad.result ≡ first_bad (job_at c.before.before.before.before.before.before.before.before.before.before.before.before.before.before draws) c.args.job.k
+bad_is c draws = c.first_bad-bad.ensures (job_at c.before.before.before.before.before.before.before.before.before.before.before.before.before.before draws) refl refl
 
 pub returns-then-not-sizes_good : goal.returns-then-not-sizes_good
 unfolding JobTested
@@ -70,17 +70,17 @@ returns-then-bad-gt0 c draws out =
     stops_ranking (job_at (goal.at.returns-then-bad-gt0 c).Start draws) out (sized (goal.at.returns-then-bad-gt0 c).Else-not-sizes_good) (ordered (goal.at.returns-then-bad-gt0 c).Else-not-orders_good) (labelled (goal.at.returns-then-bad-gt0 c).Else-not-label_good draws) c.if-rankings-k.false _
     (bad_is (goal.at.returns-then-bad-gt0 c).After-first_bad-bad draws) (omega arith)
 
-ranked_well : (c : goal.Else-bad-gt0) (draws : List ℕ) → rankings_good (job_at c.before.before.before.before.before.before.before.before.before.before.before.before.before.before draws) ≡ true
+ranked_well : (c : goal.Else-bad-gt0) (draws : List ℕ) → rankings_good (job_at c.before.before.before.before.before.before.before.before.before.before.before.before.before.before.before draws) ≡ true
 ranked_well c draws =
-    let bad_is : ((draws : List ℕ) → c.first_bad-bad.result ≡ first_bad (job_at c.before.before.before.before.before.before.before.before.before.before.before.before.before.before draws) c.args.job.k) = λ draws. c.first_bad-bad.ensures (job_at c.before.before.before.before.before.before.before.before.before.before.before.before.before.before draws) refl refl in
-    well_ranked (job_at c.before.before.before.before.before.before.before.before.before.before.before.before.before.before draws) c.if-rankings-k.false (omega (arith, bad_is draws, c.if-bad-gt0.false))
+    let bad_is : ((draws : List ℕ) → c.first_bad-bad.result ≡ first_bad (job_at c.before.before.before.before.before.before.before.before.before.before.before.before.before.before.before draws) c.args.job.k) = λ draws. c.first_bad-bad.ensures (job_at c.before.before.before.before.before.before.before.before.before.before.before.before.before.before.before draws) refl refl in
+    well_ranked (job_at c.before.before.before.before.before.before.before.before.before.before.before.before.before.before.before draws) c.if-rankings-k.false (omega (arith, bad_is draws, c.if-bad-gt0.false))
 
-kinds_told : (c : goal.After-kinds_good) (draws : List ℕ) → c.kinds_good.result ≡ kinds_good (job_at c.before.before.before.before.before.before.before.before.before.before.before.before.before.before.before draws)
+kinds_told : (c : goal.After-kinds_good) (draws : List ℕ) → c.kinds_good.result ≡ kinds_good (job_at c.before.before.before.before.before.before.before.before.before.before.before.before.before.before.before.before draws)
 kinds_told c draws = c.kinds_good.ensures
 
-kinds_well : (c : goal.Else-not-kinds_good) (draws : List ℕ) → kinds_good (job_at c.before.before.before.before.before.before.before.before.before.before.before.before.before.before.before.before draws) ≡ true
+kinds_well : (c : goal.Else-not-kinds_good) (draws : List ℕ) → kinds_good (job_at c.before.before.before.before.before.before.before.before.before.before.before.before.before.before.before.before.before draws) ≡ true
 kinds_well c draws =
-    let kinds_told : ((draws : List ℕ) → c.kinds_good.result ≡ kinds_good (job_at c.before.before.before.before.before.before.before.before.before.before.before.before.before.before.before.before draws)) = λ draws. c.kinds_good.ensures in
+    let kinds_told : ((draws : List ℕ) → c.kinds_good.result ≡ kinds_good (job_at c.before.before.before.before.before.before.before.before.before.before.before.before.before.before.before.before.before draws)) = λ draws. c.kinds_good.ensures in
     sym (kinds_told draws) ∙ c.if-not-kinds_good.false
 
 pub returns-then-not-kinds_good : goal.returns-then-not-kinds_good

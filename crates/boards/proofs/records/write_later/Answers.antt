@@ -42,29 +42,29 @@ returns-then-wide-ne-COUNTED c =
     none _
     ∙ ap (λ (x : List ℕ). written x f.out.now) (none_later (job_at (goal.at.returns-then-wide-ne-COUNTED c).Start) (head_group f.head) (list_of t.before) t.a t.m f.turn.b c.requires.2 (λ e. c.if-wide-ne-COUNTED.true (c.wide.ensures ∙ e)))
 
-counted : (c : goal.After-write_shift-arg-1) → kind_of (job_at c.before.before.before.before.before.before.before.before.before.before.before.before.before.before.before.before.before.before) c.args.turn.b ≡ 0
+counted : (c : goal.After-write_shift-arg-1) → kind_of (job_at c.before.before.before.before.before.before.before.before.before.before.before.before.before.before.before.before.before.before.before) c.args.turn.b ≡ 0
 counted c = sym c.wide.ensures ∙ c.if-wide-ne-COUNTED.false
 
-struck_is : (c : goal.After-write_shift-arg-1) → c.row_of.result ≡ row_of c.args.turn.plan.a (remaining (list_of c.args.turn.plan.before) (ranking_of (job_at c.before.before.before.before.before.before.before.before.before.before.before.before.before.before.before.before.before.before) c.args.turn.b))
+struck_is : (c : goal.After-write_shift-arg-1) → c.row_of.result ≡ row_of c.args.turn.plan.a (remaining (list_of c.args.turn.plan.before) (ranking_of (job_at c.before.before.before.before.before.before.before.before.before.before.before.before.before.before.before.before.before.before.before) c.args.turn.b))
 struck_is c =
-    let l = left c.before.before.before.before.before.before.before.before.before.before.before.before.before.before.before.before.before.before in
-    let n : c.args.head.n - c.args.turn.plan.m + 1 ≡ c.args.head.n - was c.before.before.before.before.before.before.before.before.before.before.before.before.before.before.before.before.before.before = omega (arith, c.requires.2, c.requires.1.round.early) in
-    place_is c.args.turn.plan.a _ (c.args.head.n - was c.before.before.before.before.before.before.before.before.before.before.before.before.before.before.before.before.before.before) _ _ _ c.row_of.ensures c.still_in-before.ensures n (l.false c.args.turn.b c.requires.1.below)
+    let l = left c.before.before.before.before.before.before.before.before.before.before.before.before.before.before.before.before.before.before.before in
+    let n : c.args.head.n - c.args.turn.plan.m + 1 ≡ c.args.head.n - was c.before.before.before.before.before.before.before.before.before.before.before.before.before.before.before.before.before.before.before = omega (arith, c.requires.2, c.requires.1.round.early) in
+    place_is c.args.turn.plan.a _ (c.args.head.n - was c.before.before.before.before.before.before.before.before.before.before.before.before.before.before.before.before.before.before.before) _ _ _ c.row_of.ensures c.still_in-before.ensures n (l.left c.args.turn.b c.requires.1.below)
 
-after_is : (c : goal.After-write_shift-arg-1) → c.still_in-after.result ≡ with_zeros (remaining (list_of c.args.turn.plan.before ++ (c.args.turn.plan.a ∷ [])) (ranking_of (job_at c.before.before.before.before.before.before.before.before.before.before.before.before.before.before.before.before.before.before) c.args.turn.b))
-after_is c = c.still_in-after.ensures ∙ rw (left c.before.before.before.before.before.before.before.before.before.before.before.before.before.before.before.before.before.before).struck
+after_is : (c : goal.After-write_shift-arg-1) → c.still_in-after.result ≡ with_zeros (remaining (list_of c.args.turn.plan.before ++ (c.args.turn.plan.a ∷ [])) (ranking_of (job_at c.before.before.before.before.before.before.before.before.before.before.before.before.before.before.before.before.before.before.before) c.args.turn.b))
+after_is c = c.still_in-after.ensures ∙ rw (left c.before.before.before.before.before.before.before.before.before.before.before.before.before.before.before.before.before.before.before).struck
 
-rows_is : (c : goal.After-write_shift-arg-1) → c.args.head.n - c.args.turn.plan.m ≡ c.args.head.n - suc (was c.before.before.before.before.before.before.before.before.before.before.before.before.before.before.before.before.before.before)
-rows_is c = rw (← (next c.before.before.before.before.before.before.before.before.before.before.before.before.before.before.before.before.before.before))
+rows_is : (c : goal.After-write_shift-arg-1) → c.args.head.n - c.args.turn.plan.m ≡ c.args.head.n - suc (was c.before.before.before.before.before.before.before.before.before.before.before.before.before.before.before.before.before.before.before)
+rows_is c = rw (← (next c.before.before.before.before.before.before.before.before.before.before.before.before.before.before.before.before.before.before.before))
 
-round_is : (c : goal.After-write_shift-arg-1) → c.low.result ≡ suc (was c.before.before.before.before.before.before.before.before.before.before.before.before.before.before.before.before.before.before) + 1
-round_is c = c.low.ensures ∙ ap (λ (m : ℕ). m + 1) (next c.before.before.before.before.before.before.before.before.before.before.before.before.before.before.before.before.before.before)
+round_is : (c : goal.After-write_shift-arg-1) → c.low.result ≡ suc (was c.before.before.before.before.before.before.before.before.before.before.before.before.before.before.before.before.before.before.before) + 1
+round_is c = c.low.ensures ∙ ap (λ (m : ℕ). m + 1) (next c.before.before.before.before.before.before.before.before.before.before.before.before.before.before.before.before.before.before.before)
 
 column_is : (c : goal.After-write_shift-arg-1) → c.wide-2.result - 1 ≡ c.args.turn.plan.a - 1
 column_is c = ap (λ (x : ℕ). x - 1) c.wide-2.ensures
 
-new_is : (c : goal.After-write_shift-arg-1) → c.args.turn.new ≡ job_draws (job_at c.before.before.before.before.before.before.before.before.before.before.before.before.before.before.before.before.before.before) (suc (was c.before.before.before.before.before.before.before.before.before.before.before.before.before.before.before.before.before.before)) c.args.turn.b
-new_is c = c.requires.1.new ∙ ap (λ (m : ℕ). job_draws (job_at c.before.before.before.before.before.before.before.before.before.before.before.before.before.before.before.before.before.before) m c.args.turn.b) (next c.before.before.before.before.before.before.before.before.before.before.before.before.before.before.before.before.before.before)
+new_is : (c : goal.After-write_shift-arg-1) → c.args.turn.new ≡ job_draws (job_at c.before.before.before.before.before.before.before.before.before.before.before.before.before.before.before.before.before.before.before) (suc (was c.before.before.before.before.before.before.before.before.before.before.before.before.before.before.before.before.before.before.before)) c.args.turn.b
+new_is c = c.requires.1.new ∙ ap (λ (m : ℕ). job_draws (job_at c.before.before.before.before.before.before.before.before.before.before.before.before.before.before.before.before.before.before.before) m c.args.turn.b) (next c.before.before.before.before.before.before.before.before.before.before.before.before.before.before.before.before.before.before.before)
 
 pub write_shift-requires : goal.write_shift-requires
 write_shift-requires c =

@@ -58,7 +58,7 @@ pub loop-b-preserved : goal.loop-b-preserved
 loop-b-preserved c =
     let f = c.args in
     let l = c.loop-b in
-    let kind : ℕ → ℕ = λ i. get_or f.kinds.now c 0 in
+    let kind : ℕ → ℕ = λ i. get_or f.kinds.now i 0 in
     let told = c.wide-kind.ensures in
     let size = c.record_length-at.ensures in
     let was = c.draws_before-old.ensures in
@@ -66,9 +66,9 @@ loop-b-preserved c =
     let g = head_group f.head in (
       omega (arith, c.loop-b-test.true),
       search rules,
-      sum_more l.b l.at _ (λ i. record_length f.head.n (kind c) f.plan.m) l.invariant.2 (size.0 ∙ rw told),
-      omega (arith, l.invariant.3, sum_more l.b _ _ (λ i. record_draws f.head.n (kind c) f.plan.m) refl (own.0 ∙ rw told)),
-      λ j e. omega (arith, l.invariant.4 j e, sum_more l.b _ _ (λ i. record_draws f.head.n (kind c) j) refl (was.0 j e ∙ rw told)),
+      sum_more l.b l.at _ (λ i. record_length f.head.n (kind i) f.plan.m) l.invariant.2 (size.0 ∙ rw told),
+      omega (arith, l.invariant.3, sum_more l.b _ _ (λ i. record_draws f.head.n (kind i) f.plan.m) refl (own.0 ∙ rw told)),
+      λ j e. omega (arith, l.invariant.4 j e, sum_more l.b _ _ (λ i. record_draws f.head.n (kind i) j) refl (was.0 j e ∙ rw told)),
       omega (arith, l.invariant.5, own.1),
       omega (arith, l.invariant.6, was.1),
       omega (arith, l.invariant.7, size.1),

@@ -34,14 +34,14 @@ below c =
 within : (c : goal.In-loop-m) → let f = c.args in
     let l = c.loop-m in l.at + sum_below f.head.k (λ i. record_length f.head.n (get_or f.kinds.now i 0) l.m) + sheet_length f.head.n ≤ length f.out.now
 within c =
-    let job = job_at c.before.before.before.before.before.before.before.before in
+    let job = job_at c.before.before.before.before.before.before.before.before.before in
     let l = c.loop-m in
     omega (arith, place_next job.n (kind_of job) job.K l.m, place_mono job.n (kind_of job) job.K (l.m + 1) (c.args.count.gone.outs + 1) (omega (arith, below c)), c.requires.3, l.invariant.3)
 
 -- its draws are few
-near : (c : goal.In-loop-m) → draws_before (job_at c.before.before.before.before.before.before.before.before) c.loop-m.m ≤ 10000000
+near : (c : goal.In-loop-m) → draws_before (job_at c.before.before.before.before.before.before.before.before.before) c.loop-m.m ≤ 10000000
 near c =
-    let job = job_at c.before.before.before.before.before.before.before.before in
+    let job = job_at c.before.before.before.before.before.before.before.before.before in
     omega (arith, draws_mono job.n (kind_of job) job.K c.loop-m.m (c.args.count.gone.outs + 1) (omega (arith, below c)), c.requires.1.low)
 
 pub write_round-requires : goal.write_round-requires
