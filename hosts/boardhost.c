@@ -1,6 +1,5 @@
 /* An example host in C: lends boards of any size to the library, and prints boardcheck's verdicts, the
- * ballots of receipts or the counts in sentences; or lends lists of plain rankings, and prints whether
- * one process is ahead of another.
+ * ballots of receipts or the counts in sentences.
  *
  *   boardhost FILE...                  a verdict for each file
  *   boardhost --small BOARD...         the same, boards held to 5 processes and 200 ballots (23)
@@ -9,24 +8,19 @@
  *                                      refusal
  *   boardhost --names FILE BOARD...    for each board its text, the processes named by FILE (a line
  *                                      each); or the refusal
- *   boardhost --ahead N A B FILE...    for each list of rankings of N bytes, one after another, a line:
- *                                      yes if more than half place A above B, else no, and how many
- *                                      were read; or the refusal (24)
  *
- * With no board or list it takes the one on standard input. One that cannot be read gets a line on
- * standard error and no answer, and the next one follows; if the digests or names cannot be read, or N,
- * A or B is no decimal number below 2^64, none gets an answer. Where standard output is closed, or does
- * not take an answer, a line on standard error says why, and no other answer follows. Ends with 0 if all
- * boards are accepted, walked or told and all lists compared, 1 if one is refused, 2 if a file or a
- * number cannot be read or an answer cannot be printed; a pipe that nobody reads any more ends it by
- * SIGPIPE. */
+ * With no board it takes the one on standard input. A board that cannot be read gets a line on
+ * standard error and no answer, and the next one follows; if the digests or names cannot be read, none
+ * gets an answer. Where standard output is closed, or does not take an answer, a line on standard error
+ * says why, and no other answer follows. Ends with 0 if all boards are accepted, walked or told, 1 if
+ * one is refused, 2 if a file cannot be read or an answer cannot be printed; a pipe that nobody reads
+ * any more ends it by SIGPIPE. */
 
 /* For fcntl, which is POSIX's and not C's: under -std=c11 a header need not declare it unasked. */
 #define _POSIX_C_SOURCE 200809L
 
 #include <errno.h>
 #include <fcntl.h>
-#include <stdbool.h>
 #include <stdio.h>
 #include <stdlib.h>
 #include <string.h>
@@ -88,7 +82,7 @@ static int cannot_print(const char *reason)
     return FAILED;
 }
 
-/* The answer to a file, once standard output has taken all of it. A part that it did not take earlier
+/* The answer to a board, once standard output has taken all of it. A part that it did not take earlier
  * is known by ferror, and errno is still of that, since nothing but printing came after it. */
 static int printed(int answered)
 {
@@ -107,18 +101,10 @@ static int print_refusal(size_t code)
 /* An entry to the checker. */
 typedef size_t entry(const uint8_t *board, size_t length, size_t answer[GOOSEOFTEN_CHECK_LENGTH]);
 
-/* What is asked of every file: what prints the answer, and what that takes beside the file. */
-struct question {
-    int (*print)(struct bytes file, const struct question *question);
-    entry *check;      /* of a verdict */
-    struct bytes lent; /* digests or names */
-    size_t n, a, b;    /* of a comparison */
-};
-
-static int print_verdict(struct bytes board, const struct question *question)
+static int print_checked(entry *check, struct bytes board)
 {
     size_t answer[GOOSEOFTEN_CHECK_LENGTH];
-    size_t code = question->check(board.start, board.length, answer);
+    size_t code = check(board.start, board.length, answer);
     if (code != 0) {
         return print_refusal(code);
     }
@@ -130,11 +116,22 @@ static int print_verdict(struct bytes board, const struct question *question)
     return ANSWERED;
 }
 
+static int print_verdict(struct bytes board, struct bytes nothing)
+{
+    (void)nothing;
+    return print_checked(gooseoften_check, board);
+}
+
+static int print_small(struct bytes board, struct bytes nothing)
+{
+    (void)nothing;
+    return print_checked(gooseoften_check_small, board);
+}
+
 /* Of more digests none is looked up: the list is refused. */
-static int print_found(struct bytes board, const struct question *question)
+static int print_found(struct bytes board, struct bytes digests)
 {
     uint16_t found[DIGESTS_MOST];
-    struct bytes digests = question->lent;
     size_t count = digests.length / DIGEST;
     size_t code = gooseoften_find(board.start, board.length, digests.start, digests.length, found,
                                   count < DIGESTS_MOST ? count : DIGESTS_MOST);
@@ -149,10 +146,9 @@ static int print_found(struct bytes board, const struct question *question)
     return ANSWERED;
 }
 
-static int print_text(struct bytes board, const struct question *question)
+static int print_text(struct bytes board, struct bytes names)
 {
     uint8_t text[GOOSEOFTEN_TEXT_MOST];
-    struct bytes names = question->lent;
     size_t length[1];
     size_t code = gooseoften_text(board.start, board.length, names.start, names.length, text,
                                   sizeof text, length);
@@ -163,32 +159,25 @@ static int print_text(struct bytes board, const struct question *question)
     return ANSWERED;
 }
 
-static int print_ahead(struct bytes rankings, const struct question *question)
-{
-    size_t answer[GOOSEOFTEN_AHEAD_LENGTH];
-    size_t code = gooseoften_ahead(question->n, rankings.start, rankings.length, question->a,
-                                   question->b, answer);
-    if (code != 0) {
-        return print_refusal(code);
-    }
-    printf("%s %zu\n", answer[GOOSEOFTEN_AHEAD_REPLY] == 1 ? "yes" : "no",
-           answer[GOOSEOFTEN_AHEAD_READ]);
-    return ANSWERED;
-}
+/* What is asked of every board, and what is lent for it: digests, names, or nothing. */
+struct question {
+    int (*print)(struct bytes board, struct bytes lent);
+    struct bytes lent;
+};
 
-static int answer(const char *name, const struct question *question)
+static int answer(const char *name, struct question question)
 {
-    struct bytes file = read_named(name);
-    if (file.start == NULL) {
+    struct bytes board = read_named(name);
+    if (board.start == NULL) {
         return FAILED;
     }
-    int answered = printed(question->print(file, question));
-    free(file.start);
+    int answered = printed(question.print(board, question.lent));
+    free(board.start);
     return answered;
 }
 
-/* The worst of the answers to the files of these names, as far as they can be printed. */
-static int answer_all(int count, char **names, const struct question *question)
+/* The worst of the answers to the boards of these names, as far as they can be printed. */
+static int answer_all(int count, char **names, struct question question)
 {
     if (count == 0) {
         return answer(NULL, question);
@@ -201,71 +190,32 @@ static int answer_all(int count, char **names, const struct question *question)
     return worst;
 }
 
-static int usage(void)
+static int run(int count, char **arguments)
 {
-    fprintf(stderr, "usage: boardhost [--small | --digests FILE | --names FILE | --ahead N A B] "
-                    "[FILE...]\n");
-    return FAILED;
-}
-
-/* The answers to boards, with the file that is named ahead of them lent. */
-static int answer_lent(int count, char **names, struct question question)
-{
-    if (count < 1) {
-        return usage();
+    struct question question = {print_verdict, {NULL, 0}};
+    const char *option = count > 0 ? arguments[0] : "";
+    if (strcmp(option, "--small") == 0) {
+        question.print = print_small;
+        return answer_all(count - 1, arguments + 1, question);
     }
-    question.lent = read_named(names[0]);
+    if (strcmp(option, "--digests") == 0) {
+        question.print = print_found;
+    } else if (strcmp(option, "--names") == 0) {
+        question.print = print_text;
+    } else {
+        return answer_all(count, arguments, question);
+    }
+    if (count < 2) {
+        fprintf(stderr, "usage: boardhost [--small | --digests FILE | --names FILE] [BOARD...]\n");
+        return FAILED;
+    }
+    question.lent = read_named(arguments[1]);
     if (question.lent.start == NULL) {
         return FAILED;
     }
-    int worst = answer_all(count - 1, names + 1, &question);
+    int worst = answer_all(count - 2, arguments + 2, question);
     free(question.lent.start);
     return worst;
-}
-
-/* Whether a word is a number, of digits alone, and which. */
-static bool read_number(const char *word, size_t *number)
-{
-    const char *next = word;
-    for (*number = 0; *next >= '0' && *next <= '9'; next++) {
-        size_t digit = (size_t)(*next - '0');
-        if (*number > (SIZE_MAX - digit) / 10) {
-            return false;
-        }
-        *number = 10 * *number + digit;
-    }
-    return next > word && *next == '\0';
-}
-
-/* The answers to lists of rankings, with n, a and b ahead of them. */
-static int answer_ahead(int count, char **words)
-{
-    struct question question = {.print = print_ahead};
-    if (count < 3 || !read_number(words[0], &question.n) || !read_number(words[1], &question.a) ||
-        !read_number(words[2], &question.b)) {
-        return usage();
-    }
-    return answer_all(count - 3, words + 3, &question);
-}
-
-static int run(int count, char **arguments)
-{
-    const char *option = count > 0 ? arguments[0] : "";
-    if (strcmp(option, "--digests") == 0) {
-        return answer_lent(count - 1, arguments + 1, (struct question){.print = print_found});
-    }
-    if (strcmp(option, "--names") == 0) {
-        return answer_lent(count - 1, arguments + 1, (struct question){.print = print_text});
-    }
-    if (strcmp(option, "--ahead") == 0) {
-        return answer_ahead(count - 1, arguments + 1);
-    }
-    struct question question = {.print = print_verdict, .check = gooseoften_check};
-    if (strcmp(option, "--small") == 0) {
-        question.check = gooseoften_check_small;
-        return answer_all(count - 1, arguments + 1, &question);
-    }
-    return answer_all(count, arguments, &question);
 }
 
 /* Whether standard output is closed is asked before a file is opened, which would take its place. */

@@ -1,8 +1,7 @@
-/* Gooseoften: checks and writes ranked-ballot boards, finds receipts on them, tells their counts in
- * sentences, and answers whether one process is ahead of another on a list of plain rankings. Link with
- * libgooseoften.a.
+/* Gooseoften: checks and writes ranked-ballot boards, finds receipts on them, and tells their counts in
+ * sentences. Link with libgooseoften.a.
  *
- * The six functions take any bytes and any numbers, keep nothing between calls, allocate nothing,
+ * The five functions take any bytes and any numbers, keep nothing between calls, allocate nothing,
  * and read and write only what is lent. What they return and write is proved.
  *
  * What an accepted board promises: every rule holds on it. Its result is the plain count of its counted
@@ -55,10 +54,8 @@ enum gooseoften_refusal {
     GOOSEOFTEN_REPEAT = 20,       /* of a job: two x of a matrix are equal */
     GOOSEOFTEN_NAMES = 21,        /* the names are not one of 1 to 20 letters a process, each with a
                                      line feed after it, all different */
-    GOOSEOFTEN_LIMITS = 23,       /* of gooseoften_check_small: n is above 5 or K above 200, both in
+    GOOSEOFTEN_LIMITS = 23        /* of gooseoften_check_small: n is above 5 or K above 200, both in
                                      range */
-    GOOSEOFTEN_QUESTION = 24      /* of gooseoften_ahead: n, a or b is out of range, or the rankings are
-                                     no multiple of n bytes or more than 1,000 */
 };
 
 static inline size_t gooseoften_refusal_number(size_t code)
@@ -81,13 +78,6 @@ enum gooseoften_answer {
     GOOSEOFTEN_CHECK_LENGTH = 10,
     GOOSEOFTEN_BOARD_LENGTH = 10, /* of a written board */
     GOOSEOFTEN_WRITE_LENGTH = 11
-};
-
-/* The numbers in the answer of gooseoften_ahead. */
-enum gooseoften_ahead_answer {
-    GOOSEOFTEN_AHEAD_REPLY = 0, /* 1 for yes, 0 for no */
-    GOOSEOFTEN_AHEAD_READ = 1,  /* how many rankings were read */
-    GOOSEOFTEN_AHEAD_LENGTH = 2
 };
 
 /* The verdict on a board. Its result is that of the counted ballots; an audited ballot opens to the
@@ -145,17 +135,6 @@ enum { GOOSEOFTEN_TEXT_MOST = 1454 };
 size_t gooseoften_text(const uint8_t *board, size_t board_length,
                        const uint8_t *names, size_t names_length,
                        uint8_t *out, size_t out_length, size_t answer[1]);
-
-/* Is a ahead of b: do more than half of the rankings place process a above process b? Writes the reply
- * and how many rankings were read to answer, or refuses and leaves answer as it was. Rankings: up to
- * 1,000, a byte a place, one ranking after another, n bytes each. A ranking that lacks a process, any of
- * the n, counts for neither but stays in the total. They are read in their order, and reading ends as
- * soon as those read make yes sure or out of reach, whatever the rest may say: the reply is that of the
- * full list, and nothing behind them is looked at. An empty list, whose pointer may be null, gives no,
- * as does a equal to b, both with 0 read. Refused (24, record 0) are an n outside 2 to 8, an a or b
- * outside 1 to n, a length that is no multiple of n, and more than 1,000 rankings. */
-size_t gooseoften_ahead(size_t n, const uint8_t *rankings, size_t rankings_length, size_t a, size_t b,
-                        size_t answer[GOOSEOFTEN_AHEAD_LENGTH]);
 
 #ifdef __cplusplus
 }

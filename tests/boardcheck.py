@@ -21,7 +21,7 @@ import stored
 from library import c_compiler
 from stored import LIMIT, Comparison, path
 
-PROGRAM = path('target', 'bin', 'boardcheck')
+PROGRAM = path('crates', 'boardcheck', 'out', 'boardcheck')
 SAMPLE = path('crates', 'boardcheck', 'stdin')
 NO_VERDICT = ('', 'boardcheck: no verdict, cannot read the board: ')
 NO_ARGUMENTS = ('boardcheck: no verdict, it takes no arguments; the board is read from standard '

@@ -22,7 +22,7 @@ import sys
 
 from stored import Comparison, content, path
 
-ARCHIVE = path('target', 'staticlib', 'libgooseoften.a')
+ARCHIVE = path('crates', 'gooseoften', 'out', 'libgooseoften.a')
 OTHERS = (13, 14, 15, 16, 20, 21, 23)                        # not of gooseoften_check
 NUMBERS = {'u8': ('uint8_t', ctypes.c_uint8), 'u16': ('uint16_t', ctypes.c_uint16),
            'u32': ('uint32_t', ctypes.c_uint32), 'usize': ('size_t', ctypes.c_size_t)}
@@ -42,7 +42,7 @@ def exported():
     """name: (arguments as (name, type), result) of each exported function."""
     found = {}
     for name, arguments, result in re.findall(
-            r'#\[no_mangle\]\s*pub extern "C" fn (\w+)\((.*?)\) -> (\w+)',
+            r'#\[unsafe\(no_mangle\)\]\s*pub extern "C" fn (\w+)\((.*?)\) -> (\w+)',
             source('crates/gooseoften/src/lib.rt'), re.S):
         found[name] = ([tuple(a.split(': ')) for a in split(arguments)], result)
     assert found, 'no exported function found'

@@ -3,7 +3,7 @@
 
   python3 tests/library.py [--without-c] [--without-rust]
 
-It builds libgooseoften.a (`rt staticlib gooseoften`) and the hosts in C and in Rust, and compares:
+It builds libgooseoften.a (`rt lib` in its crate) and the hosts in C and in Rust, and compares:
 
   - the verdicts of both hosts on the stored boards of crates/cases with the stored ones, which the
     reference made, by both entries to the checker;
@@ -248,7 +248,7 @@ def compare_functions(comparison, library):
 
 
 def main(arguments):
-    subprocess.run(['rt', 'staticlib', 'gooseoften'], cwd=ROOT, check=True,
+    subprocess.run(['rt', 'lib'], cwd=path('crates', 'gooseoften'), check=True,
                    stdout=subprocess.DEVNULL)
     comparison = Comparison()
     with tempfile.TemporaryDirectory() as folder:

@@ -19,4 +19,5 @@ returns c =
     let f = c.args in
     let r = c.check_small-checked in
     let e = c.put_verdict.ensures in
-    checked (check_small sha256 f.board.now) f.answer.now _ r.result.answer r.result.order _ r.ensures.0 r.ensures.1 e.0 e.1
+    let w = checked (check_small sha256 f.board.now) f.answer.now _ r.result.answer r.result.order _ r.ensures.0 r.ensures.1 e.value e.answer_after in
+    record { value = w.0; answer_after = w.1 }

@@ -9,11 +9,11 @@ pub found_code-requires : goal.found_code-requires
 found_code-requires c =
     let f = c.args in
     let r = c.find-answer in
-    found_placed f.board.now f.digests.now (length f.found.now) r.result _ r.ensures.0
+    found_placed f.board.now f.digests.now (length f.found.now) r.result _ r.ensures.found_after
 
 pub returns : goal.returns
 returns c =
     let r = c.find-answer in record {
-      value = c.found_code.ensures _ ∙ ap find_code r.ensures.0;
-      found_after = r.ensures.1;
+      value = c.found_code.ensures _ ∙ ap find_code r.ensures.found_after;
+      found_after = r.ensures.found_after_2;
     }

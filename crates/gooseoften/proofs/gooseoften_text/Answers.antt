@@ -10,16 +10,16 @@ put_told-requires c =
     let t = c.text-told in
     record {
       in_bounds = omega (arith, c.well_formed);
-      told_bound = told_placed c.args.board.now c.args.names.now (length c.args.out.now) t.result _ t.ensures.0;
+      told_bound = told_placed c.args.board.now c.args.names.now (length c.args.out.now) t.result _ t.ensures.out_after;
     }
 
 pub returns : goal.returns
 returns c =
     let t = c.text-told in
     let e = c.put_told.ensures in
-    let r = told c.args.board.now c.args.names.now c.args.answer.now _ _ (length c.args.out.now) t.result _ t.ensures.0 (e.0 _) e.1 in
+    let r = told c.args.board.now c.args.names.now c.args.answer.now _ _ (length c.args.out.now) t.result _ t.ensures.out_after (e.by_index _) e.answer_after in
     record {
       value = r.0;
       answer_after = r.1;
-      out_after = t.ensures.1;
+      out_after = t.ensures.out_after_2;
     }

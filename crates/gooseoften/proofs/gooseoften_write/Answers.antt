@@ -16,7 +16,7 @@ put_reply-requires c =
     let w = c.write-written in
     record {
       in_bounds = omega (arith, c.well_formed);
-      reply_bound = which_placed (job_at (goal.at.put_reply-requires c).Start) (length c.args.out.now) w.result.reply w.result.order w.ensures.0;
+      reply_bound = which_placed (job_at (goal.at.put_reply-requires c).Start) (length c.args.out.now) w.result.reply w.result.order w.ensures.result_value;
     }
 
 pub returns : goal.returns
@@ -24,11 +24,11 @@ returns c =
     let w = c.write-written in
     let e = c.put_reply.ensures in
     let r =
-    replied (job_at (goal.at.returns c).Start) (length c.args.out.now) c.args.answer.now _ w.result.reply w.result.order _ w.ensures.0 w.ensures.1.0
-    e.0 e.1
+    replied (job_at (goal.at.returns c).Start) (length c.args.out.now) c.args.answer.now _ w.result.reply w.result.order _ w.ensures.result_value w.ensures.order_value
+    e.value e.answer_after
     in
     record {
       value = r.0;
       answer_after = r.1;
-      out_after = w.ensures.1.1;
+      out_after = w.ensures.out_after;
     }
