@@ -3,7 +3,7 @@
 
   python3 tests/boardcheck.py [--without-c]
 
-It runs target/bin/boardcheck, which `rt check boardcheck` builds, on every stored board, on boards
+It runs crates/boardcheck/out/boardcheck, which `rt ci` and `rt run` leave there, on every stored board, on boards
 of exactly 65,536 bytes and of one byte more, on input that comes in parts, late, interrupted, or
 that cannot be read, with output that takes nothing, and with arguments.  A board that was not read
 to its end gets no verdict: nothing on standard output, a line on standard error.  Interrupted reads
@@ -115,7 +115,7 @@ def interrupted(board, verdict, comparison, folder):
 
 
 def main(arguments):
-    assert os.path.exists(PROGRAM), 'boardcheck is not built: rt check boardcheck'
+    assert os.path.exists(PROGRAM), 'boardcheck is not built: rt run in crates/boardcheck, or rt ci'
     comparison = Comparison()
     boards = stored.boards()
     sample = stored.content('crates', 'boardcheck', 'stdin')
