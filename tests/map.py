@@ -22,7 +22,7 @@ def crates():
     """name: the crates that it uses, in the order of crates.txt."""
     lines = content('crates.txt').decode().splitlines()
     pairs = [line.split(':') for line in lines if line and not line.startswith('#')]
-    return {name.strip(): listed.split() for name, listed in pairs}
+    return {name.split()[0]: listed.split() for name, listed in pairs}
 
 
 def reached(uses, crate):
@@ -46,12 +46,12 @@ def idle(uses):
     found = []
     for crate, listed in uses.items():
         text = ''
-        for ending in ('rt', 'antt'):
-            for name in glob.glob(path('crates', crate, '**', '*.' + ending), recursive=True):
+        for kind in ('src/**/*.rt', 'specs/**/*.antt', 'proofs/**/*.antt'):
+            for name in glob.glob(path('crates', crate, kind), recursive=True):
                 with open(name, encoding='utf-8') as f:
                     text += f.read()
         found += ['%s: %s' % (crate, used) for used in listed if used not in KIT
-                  and not re.search(r'Rattle·%s[.·]|\b%s::' % (used, used), text)]
+                  and not re.search(r'\bRattle\.%s\.|\b%s::' % (used, used), text)]
     return found
 
 

@@ -1,5 +1,5 @@
 -- One round of a board after another.
-use Prim.Native.Nat.{ℕ, zero, suc, ◌+◌, ◌*◌, ◌-◌, ◌≤◌, ◌<◌}
+use Prim.Native.Nat.{ℕ, zero, suc, ◌+◌, ◌-◌, ◌≤◌, ◌<◌}
 use mathlib.Core.Path.{◌≡◌, refl, sym, ap, ◌∙◌}
 use mathlib.Core.List.{List, [], ◌++◌}
 use native.Mathlib.Nat.{zero-add, suc-add}
@@ -21,7 +21,6 @@ use Rattle.jobs.specs.Board.{record_bytes, job_draws, job_sheet}
 use Rattle.output.specs.Written.{written}
 use Rattle.output.proofs.Laws.{joined_more}
 use Rattle.ballots.proofs.Entries.{spread_part}
-use Rattle.count.specs.State.{counts_on, list_of}
 use Rattle.count.specs.declared.Count.{Count}
 use Rattle.boards.specs.declared.records.RoundPlan.{RoundPlan}
 use Rattle.boards.specs.Parts.{draws_before, bytes_before, Later, RoundReady, Planned, Writable, Sheeted, records_of, round_bytes, plan_bytes, plan_records}

@@ -1,5 +1,5 @@
 // A lent board and its next unread place, together: what a board is read with. The functions over it are few and leave the work to others, on a
-// plain slice and a place: their proofs follow the code by hand, step by step.
+// plain slice and a place.
 #![tactic(auto)]
 
 ghost use Rattle.std.specs.Prelude.{◌≡◌, ◌≤◌, length, drop};

@@ -1,5 +1,5 @@
 -- Where rounds begin, one after another.
-use Prim.Native.Nat.{ℕ, suc, ◌+◌, ◌≤◌}
+use Prim.Native.Nat.{ℕ, suc, ◌≤◌}
 use mathlib.Core.Path.{◌≡◌, refl, ap, sym}
 use mathlib.Core.Bool.{false}
 use mathlib.Core.List.{List}
@@ -15,7 +15,7 @@ use Rattle.rules.proofs.Positions.{position_first}
 use Rattle.header.specs.declared.Head.{Head}
 use Rattle.header.specs.Heads.{head_of, HeaderKnown}
 use Rattle.round.specs.declared.Round.{Round}
-use Rattle.round.specs.Rounds.{first_round, next_round, Begins, Later}
+use Rattle.round.specs.Rounds.{first_round, next_round, Begins}
 
 pub begins_first : (s : List ℕ) (h : Head) → HeaderKnown ranked s h → Begins s h header_length first_round
 begins_first s h p =

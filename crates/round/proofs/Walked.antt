@@ -11,12 +11,9 @@ use borrow.Author.Count.{below_more}
 use borrow.Author.Tests.{eqb-true, eqb-false}
 use Rattle.numbers.specs.Below.{sum_below}
 use Rattle.numbers.proofs.Tests.{by_cases}
-use Rattle.sha256.specs.Message.{sha256}
 use Rattle.rules.specs.Records.{kind_at, is_counted, records_of, pairs_from, ballot_length, record_length}
 use Rattle.rules.specs.Header.{ranked, Header}
-use Rattle.rules.specs.Sheet as said
-use Rattle.rules.specs.Check.{Position, position, place, record_number, kind, counted_below, counted, record_fault}
-use Rattle.rules.specs.Answers.{refusal_number}
+use Rattle.rules.specs.Check.{Position, position, place, record_number, kind, counted_below, counted}
 use Rattle.rules.specs.declared.Refusal.{Refusal}
 use Rattle.rules.proofs.Faults.{no_fault, fault_at}
 use Rattle.rules.proofs.Positions.{holds_pairs, position_first, position_record, place_record, place_round, place_up, round_within, round_later, earlier_fits, number_first, number_later, few_counted, no_row_lem}

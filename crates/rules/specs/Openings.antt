@@ -1,5 +1,5 @@
 -- What a pair, a matrix and a board open to.
-use Rattle.std.specs.Prelude.{ℕ, zero, suc, ◌+◌, ◌-◌, ◌<◌, ◌≡◌, true, cond, List, [], ◌∷◌, eqb, length, get_or}
+use Rattle.std.specs.Prelude.{ℕ, zero, suc, ◌-◌, ◌<◌, ◌≡◌, true, cond, List, [], ◌∷◌, eqb, length}
 use Rattle.group.specs.Arithmetic.{pow_mod}
 use Rattle.group.specs.Elements.{Parameters}
 use Rattle.rules.specs.Group.{paired}

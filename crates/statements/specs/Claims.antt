@@ -5,7 +5,6 @@ use Rattle.group.specs.Elements.{Parameters}
 use Rattle.rules.specs.Bytes.{number4}
 use Rattle.rules.specs.Proofs as said
 use Rattle.rules.specs.Claims.{matrix_at, entry_claim, line_claim, shift_claim}
-use Rattle.statements.specs.declared.Statement.{Statement}
 use Rattle.statements.specs.declared.claims.Claim.{Claim}
 use Rattle.statements.specs.declared.claims.Claim.TheVariants.{Entry, Line, Shift}
 

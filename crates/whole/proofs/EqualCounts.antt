@@ -1,5 +1,5 @@
 -- The one that goes out and the winner are those of 02's sentences.
-use Prim.Native.Nat.{ℕ, zero, suc, ◌+◌, ◌-◌, ◌≤◌, ◌<◌}
+use Prim.Native.Nat.{ℕ, zero, suc, ◌-◌, ◌≤◌, ◌<◌}
 use mathlib.Core.Path.{◌≡◌, refl, sym, ◌∙◌}
 use mathlib.Core.Bool.{Bool, true, false, not, true≢false, or-true, or-false}
 use mathlib.Core.Logic.{◌⊎◌, inl, inr, ⊎_elim}

@@ -2,7 +2,6 @@ use Prim.Native.Nat.{ℕ}
 use mathlib.Core.Path.{ap, ◌∙◌}
 use mathlib.Core.List.{List}
 use native.Mathlib.Omega.{arith}
-use borrow.Author.Rules.{rules}
 use Rattle.sha256.specs.Stream.{feed}
 use Rattle.sha256.specs.Feed.{stream_of}
 use Rattle.rules.specs.Proofs.{context_bytes}

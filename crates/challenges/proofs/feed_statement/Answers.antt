@@ -1,4 +1,3 @@
-use borrow.Author.Rules.{rules}
 use Rattle.challenges.proofs.feed_statement.Goals as goal
 
 pub returns : goal.returns

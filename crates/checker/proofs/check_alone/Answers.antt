@@ -1,4 +1,3 @@
-use borrow.Author.Rules.{rules}
 use Rattle.checker.proofs.Onward.{accepted_order, refused_order}
 use Rattle.checker.proofs.check_alone.Goals as goal
 

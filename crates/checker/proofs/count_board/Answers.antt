@@ -1,5 +1,4 @@
 use native.Mathlib.Omega.{arith}
-use borrow.Author.Rules.{rules}
 use Rattle.checker.proofs.count_board.Goals as goal
 
 pub check_model-requires : goal.check_model-requires

@@ -1,9 +1,6 @@
-use Prim.Native.Nat.{suc, ◌+◌, ◌-◌}
+use Prim.Native.Nat.{suc, ◌-◌}
 use mathlib.Core.Path.{◌≡◌}
 use native.Mathlib.Omega.{arith}
-use borrow.Author.Rules.{rules}
-use Rattle.round.specs.Rounds.{Later}
-use Rattle.round.specs.Walks.{Walked}
 use Rattle.round.proofs.Walked.{walked_first, searched_refused, searched_all}
 use Rattle.checker.proofs.read_records.Goals as goal
 

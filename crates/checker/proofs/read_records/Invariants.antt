@@ -1,10 +1,5 @@
-use Prim.Native.Nat.{suc, ◌+◌, ◌-◌}
-use mathlib.Core.Path.{◌≡◌}
-use native.Mathlib.Omega.{arith}
-use borrow.Author.Rules.{rules}
-use Rattle.round.specs.Rounds.{Later}
+use Prim.Native.Nat.{◌-◌}
 use Rattle.round.specs.Walks.{Walked}
-use Rattle.round.proofs.Walked.{walked_first, searched_refused, searched_all}
 use Rattle.checker.proofs.read_records.Given as goal
 
 abbrev pub invariant-loop-walk : goal.invariant-loop-walk

@@ -1,23 +1,12 @@
-use Prim.Native.Nat.{ℕ, ◌+◌, ◌-◌}
-use mathlib.Core.Path.{◌≡◌, refl, sym, ◌∙◌, ap}
-use mathlib.Core.Bool.{false}
-use native.Mathlib.Nat.{sub-zero}
-use native.Mathlib.Omega.{arith}
-use borrow.Author.Rules.{rules}
+use Prim.Native.Nat.{◌-◌}
+use mathlib.Core.Path.{◌≡◌}
 use Rattle.sha256.specs.Message.{sha256}
 use Rattle.rules.specs.Count.{table, start}
-use Rattle.rules.specs.Check.{Verdict, accepted, counts, check_from, round_verdict}
+use Rattle.rules.specs.Check.{counts, check_from}
 use Rattle.count.specs.State.{standing_of, Kept}
-use Rattle.count.specs.declared.Gone.{Gone}
-use Rattle.count.proofs.Picks.{sheets_many, same_gone}
 use Rattle.header.specs.Heads.{head_of}
-use Rattle.round.specs.declared.RoundOutcome.{RoundOutcome}
-use Rattle.round.specs.declared.RoundOutcome.TheVariants.{Open, Closed}
 use Rattle.round.specs.Rounds.{Begins}
-use Rattle.round.specs.Outcomes.{RoundComes}
-use Rattle.round.proofs.Beginnings.{begins_first, begins_next}
-use Rattle.checker.specs.Counts.{goes_on, stops_from}
-use Rattle.checker.proofs.Onward.{one_leaves, sheets_more, verdict_of_lem, ends_with, ends, goes_on_lem, refused_here, open_here, stops_here, stops_later}
+use Rattle.checker.specs.Counts.{stops_from}
 use Rattle.checker.proofs.rounds.Given as goal
 
 abbrev pub invariant-loop-why : goal.invariant-loop-why

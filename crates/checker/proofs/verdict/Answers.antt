@@ -1,5 +1,4 @@
 use mathlib.Core.Path.{refl, ◌∙◌}
-use borrow.Author.Rules.{rules}
 use Rattle.header.specs.declared.HeaderRead.TheVariants.{Board}
 use Rattle.header.specs.Heads.{HeaderReads}
 use Rattle.checker.proofs.Onward.{known_ranked, counted_is, refused_is, starts_there}

@@ -1,6 +1,6 @@
-use Rattle.std.proofs.Common.{◌-◌, ◌≤◌, refl, arith, rules}
+use Rattle.std.proofs.Common.{refl, arith, rules}
 use Rattle.compression.specs.Block.{K, rounds}
-use Rattle.compression.proofs.Laws.{Eight, rounds_more, compress_end}
+use Rattle.compression.proofs.Laws.{rounds_more, compress_end}
 use Rattle.compression.proofs.compress.Goals as goal
 
 pub loop-t-init : goal.loop-t-init

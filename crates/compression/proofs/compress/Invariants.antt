@@ -1,6 +1,6 @@
-use Rattle.std.proofs.Common.{◌-◌, ◌≤◌, refl, arith, rules}
-use Rattle.compression.specs.Block.{K, rounds}
-use Rattle.compression.proofs.Laws.{Eight, rounds_more, compress_end}
+use Rattle.std.proofs.Common.{◌-◌, ◌≤◌}
+use Rattle.compression.specs.Block.{rounds}
+use Rattle.compression.proofs.Laws.{Eight}
 use Rattle.compression.proofs.compress.Given as goal
 
 abbrev pub invariant-loop-t : goal.invariant-loop-t

@@ -1,4 +1,4 @@
-use Rattle.std.proofs.Common.{◌≡◌, ◌+◌, ◌-◌, ◌≤◌, length, take, sym, refl, ◌∙◌, arith, length-set, take_all, rules}
+use Rattle.std.proofs.Common.{◌≡◌, sym, refl, ◌∙◌, arith, length-set, take_all, rules}
 use Rattle.compression.specs.Block.{words, schedule}
 use Rattle.compression.proofs.Laws.{words_more, schedule_more}
 use Rattle.compression.proofs.expand.Goals as goal

@@ -1,6 +1,5 @@
-use Rattle.std.proofs.Common.{◌≡◌, ◌+◌, ◌-◌, ◌≤◌, length, take, sym, refl, ◌∙◌, arith, length-set, take_all, rules}
+use Rattle.std.proofs.Common.{◌≡◌, ◌+◌, ◌-◌, ◌≤◌, length, take}
 use Rattle.compression.specs.Block.{words, schedule}
-use Rattle.compression.proofs.Laws.{words_more, schedule_more}
 use Rattle.compression.proofs.expand.Given as goal
 
 abbrev pub invariant-loop-i : goal.invariant-loop-i

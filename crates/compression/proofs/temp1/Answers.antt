@@ -1,5 +1,4 @@
 use Rattle.compression.specs.Block.{T₁}
-use Rattle.std.proofs.Common.{rules}
 use Rattle.compression.proofs.temp1.Goals as goal
 
 pub returns : goal.returns

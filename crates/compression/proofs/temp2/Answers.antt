@@ -1,5 +1,4 @@
 use Rattle.compression.specs.Block.{T₂}
-use Rattle.std.proofs.Common.{rules}
 use Rattle.compression.proofs.temp2.Goals as goal
 
 pub returns : goal.returns

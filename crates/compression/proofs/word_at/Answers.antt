@@ -1,4 +1,3 @@
-use Rattle.std.proofs.Common.{arith, rules}
 use Rattle.compression.specs.Block.{word}
 use Rattle.compression.proofs.word_at.Goals as goal
 

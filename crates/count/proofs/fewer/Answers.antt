@@ -1,8 +1,6 @@
-use Prim.Native.Nat.{◌-◌, ◌≤◌}
-use mathlib.Core.Path.{◌≡◌, sym, ◌∙◌}
+use mathlib.Core.Path.{sym, ◌∙◌}
 use native.Mathlib.Nat.{sub-zero}
 use native.Mathlib.Omega.{arith}
-use Rattle.rules.specs.Count.{fewer}
 use Rattle.count.specs.State.{counts_by}
 use Rattle.count.proofs.Comparison.{fewer_more, fewer_found, fewer_none}
 use Rattle.count.proofs.fewer.Goals as goal

@@ -1,10 +1,7 @@
 use Prim.Native.Nat.{◌-◌, ◌≤◌}
-use mathlib.Core.Path.{◌≡◌, sym, ◌∙◌}
-use native.Mathlib.Nat.{sub-zero}
-use native.Mathlib.Omega.{arith}
+use mathlib.Core.Path.{◌≡◌}
 use Rattle.rules.specs.Count.{fewer}
 use Rattle.count.specs.State.{counts_by}
-use Rattle.count.proofs.Comparison.{fewer_more, fewer_found, fewer_none}
 use Rattle.count.proofs.fewer.Given as goal
 
 abbrev pub invariant-loop-i : goal.invariant-loop-i

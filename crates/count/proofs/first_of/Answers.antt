@@ -1,10 +1,8 @@
-use Prim.Native.Nat.{◌-◌, ◌≤◌}
 use mathlib.Core.Path.{◌≡◌, refl, ◌∙◌}
 use native.Mathlib.Omega.{arith}
 use lib.ListN.{length, take}
 use Rattle.rules.specs.Answers.{with_zeros}
 use Rattle.count.proofs.Firsts.{first_more, first_listed, first_list}
-use borrow.Author.Rules.{rules}
 use Rattle.count.proofs.first_of.Goals as goal
 
 pub loop-i-init : goal.loop-i-init

@@ -1,11 +1,7 @@
-use Prim.Native.Nat.{◌-◌}
 use mathlib.Core.Path.{◌≡◌, sym, ◌∙◌}
-use mathlib.Core.Logic.{⊎_elim}
 use native.Mathlib.Omega.{arith}
-use borrow.Author.Rules.{rules}
-use borrow.Author.Tests.{not-true, not-false}
 use Rattle.rules.specs.Receipts.{digest_at, not_above}
-use Rattle.digests.proofs.Entering.{Entering, entering_start, entering_end, entering_stop, entering_new, entering_old}
+use Rattle.digests.proofs.Entering.{entering_start, entering_end, entering_stop, entering_new, entering_old}
 use Rattle.digests.proofs.enter.Goals.{After-not_above, else-numbers-i-eq0, then-numbers-i-eq0}
 use Rattle.digests.proofs.enter.Goals as goal
 
@@ -23,9 +19,9 @@ loop-i-preserved c =
     let w = c.loop-i.invariant in
     let k = sym (told (goal.at.loop-i-preserved c).After-not_above) ∙ c.if-not-not_above.false in
     (elim c.if-numbers-i-eq0.branch [
-          then-numbers-i-eq0 a ↦ rw a.numbers-is (entering_new _ _ _ _ w (omega arith) k (omega (arith, a.if-numbers-i-eq0.true)))
-        | else-numbers-i-eq0 a ↦ rw a.numbers-is (entering_old _ _ _ _ w (omega arith) k (λ z. omega (arith, a.if-numbers-i-eq0.false)))
-        ])
+      | then-numbers-i-eq0 a ↦ rw a.numbers-is (entering_new _ _ _ _ w (omega arith) k (omega (arith, a.if-numbers-i-eq0.true)))
+      | else-numbers-i-eq0 a ↦ rw a.numbers-is (entering_old _ _ _ _ w (omega arith) k (λ z. omega (arith, a.if-numbers-i-eq0.false)))
+    ])
 
 pub returns : goal.returns
 returns c = entering_end _ _ _ _ c.loop-i.invariant (omega arith)

@@ -1,9 +1,8 @@
 use Prim.Native.Nat.{ℕ, ◌+◌, ◌/◌, ◌-◌}
 use mathlib.Core.Path.{◌≡◌, sym, ◌∙◌}
 use native.Mathlib.Omega.{arith}
-use borrow.Author.Rules.{rules}
 use Rattle.rules.specs.Receipts.{digest_at, not_above}
-use Rattle.digests.proofs.Halving.{Halved, halved_all, halved_lower, halved_upper, halved_end}
+use Rattle.digests.proofs.Halving.{halved_all, halved_lower, halved_upper, halved_end}
 use Rattle.digests.proofs.first_not_below.Goals.{After-not_above, In-loop-low}
 use Rattle.digests.proofs.first_not_below.Goals as goal
 

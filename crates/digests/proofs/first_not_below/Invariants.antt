@@ -1,9 +1,5 @@
-use Prim.Native.Nat.{ℕ, ◌+◌, ◌/◌, ◌-◌}
-use mathlib.Core.Path.{◌≡◌, sym, ◌∙◌}
-use native.Mathlib.Omega.{arith}
-use borrow.Author.Rules.{rules}
-use Rattle.rules.specs.Receipts.{digest_at, not_above}
-use Rattle.digests.proofs.Halving.{Halved, halved_all, halved_lower, halved_upper, halved_end}
+use Prim.Native.Nat.{◌-◌}
+use Rattle.digests.proofs.Halving.{Halved}
 use Rattle.digests.proofs.first_not_below.Given as goal
 
 abbrev pub invariant-loop-low : goal.invariant-loop-low

@@ -1,11 +1,7 @@
-use Prim.Native.Nat.{ℕ, ◌-◌, ◌≤◌}
-use mathlib.Core.Path.{◌≡◌, refl, sym, ◌∙◌}
-use mathlib.Core.List.{List}
-use native.Mathlib.Omega.{arith}
+use Prim.Native.Nat.{◌-◌, ◌≤◌}
+use mathlib.Core.Path.{◌≡◌}
 use lib.ListN.{length, drop}
-use borrow.Author.Rules.{rules}
 use Rattle.rules.specs.Receipts.{not_above}
-use Rattle.digests.proofs.Comparing.{left_none, left_longer, left_lower, left_higher, left_equal}
 use Rattle.digests.proofs.not_above.Given as goal
 
 abbrev pub invariant-loop-i : goal.invariant-loop-i

@@ -1,13 +1,6 @@
-use Prim.Native.Nat.{ℕ, ◌+◌, ◌-◌, ◌≤◌}
 use mathlib.Core.Path.{◌≡◌, sym, ◌∙◌}
-use mathlib.Core.Bool.{Bool, true}
-use mathlib.Core.List.{List}
 use native.Mathlib.Omega.{arith}
-use borrow.Author.Rules.{rules}
-use borrow.Author.Tests.{not-true, not-false}
-use Rattle.numbers.specs.Below.{all_below}
 use Rattle.numbers.proofs.Tests.{all_none, all_more, all_fails, all_end}
-use Rattle.rules.specs.Receipts.{digest_at, not_above}
 use Rattle.digests.proofs.rising.Invariants.{kept}
 use Rattle.digests.proofs.rising.Goals.{After-not_above}
 use Rattle.digests.proofs.rising.Goals as goal

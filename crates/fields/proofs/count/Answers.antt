@@ -1,6 +1,5 @@
 use native.Mathlib.Omega.{arith}
 use borrow.Author.Tests.{le-leb, lt-leb}
-use borrow.Author.Rules.{rules}
 use Rattle.fields.proofs.count.Goals as goal
 
 pub returns-then-x-most : goal.returns-then-x-most

@@ -1,5 +1,4 @@
 use mathlib.Core.Path.{◌≡◌, sym, ◌∙◌}
-use borrow.Author.Rules.{rules}
 use Rattle.group.specs.Elements.{is_element}
 use Rattle.rules.specs.Bytes.{number4}
 use Rattle.fields.proofs.element.Goals.{After-is_element}

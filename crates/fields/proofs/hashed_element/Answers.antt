@@ -1,4 +1,3 @@
-use borrow.Author.Rules.{rules}
 use Rattle.fields.proofs.hashed_element.Goals as goal
 
 pub returns : goal.returns

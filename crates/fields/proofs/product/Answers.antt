@@ -2,7 +2,6 @@ use Prim.Native.Nat.{◌+◌, ◌*◌}
 use mathlib.Core.Path.{◌∙◌}
 use Rattle.rules.specs.Bytes.{number4}
 use Rattle.fields.proofs.Products.{prod_all}
-use borrow.Author.Rules.{rules}
 use Rattle.fields.proofs.product.Goals as goal
 
 pub returns : goal.returns

@@ -1,12 +1,9 @@
-use Prim.Native.Nat.{ℕ, ◌+◌, ◌*◌, ◌-◌, ◌%◌, ◌≤◌}
+use Prim.Native.Nat.{ℕ, ◌+◌, ◌*◌, ◌≤◌}
 use mathlib.Core.Path.{◌≡◌, refl}
-use mathlib.Core.Logic.{⊎_elim}
 use native.Mathlib.Omega.{arith}
 use lib.ListN.{length}
-use borrow.Author.Rules.{rules}
 use Rattle.numbers.specs.Below.{prod_below}
 use Rattle.rules.specs.Bytes.{number4}
-use Rattle.rules.specs.Claims.{besides}
 use Rattle.fields.proofs.Products.{prod_more, prod_skip}
 use Rattle.fields.proofs.product_besides.Goals.{In-loop-j, else-j-out, then-j-out}
 use Rattle.fields.proofs.product_besides.Goals as goal
@@ -33,9 +30,9 @@ loop-j-preserved c =
     let inv = c.loop-j.invariant.1 in (
       omega arith,
       (elim c.if-j-out.branch [
-          then-j-out w ↦ prod_more a.p a.out _ f _ _ w.if-j-out.true inv (rw (w.r-is, ← w.as_element.ensures) w.mul-r.ensures)
+        | then-j-out w ↦ prod_more a.p a.out _ f _ _ w.if-j-out.true inv (rw (w.r-is, ← w.as_element.ensures) w.mul-r.ensures)
         | else-j-out w ↦ rw w.r-is (prod_skip a.p a.out _ f _ w.if-j-out.false inv)
-        ]),
+      ]),
     )
 
 pub returns : goal.returns

@@ -1,13 +1,8 @@
-use Prim.Native.Nat.{ℕ, ◌+◌, ◌*◌, ◌-◌, ◌%◌, ◌≤◌}
-use mathlib.Core.Path.{◌≡◌, refl}
-use mathlib.Core.Logic.{⊎_elim}
-use native.Mathlib.Omega.{arith}
-use lib.ListN.{length}
-use borrow.Author.Rules.{rules}
+use Prim.Native.Nat.{◌+◌, ◌*◌, ◌-◌, ◌%◌, ◌≤◌}
+use mathlib.Core.Path.{◌≡◌}
 use Rattle.numbers.specs.Below.{prod_below}
 use Rattle.rules.specs.Bytes.{number4}
 use Rattle.rules.specs.Claims.{besides}
-use Rattle.fields.proofs.Products.{prod_more, prod_skip}
 use Rattle.fields.proofs.product_besides.Given as goal
 
 abbrev pub invariant-loop-j : goal.invariant-loop-j

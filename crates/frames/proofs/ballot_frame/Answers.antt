@@ -1,6 +1,5 @@
 use Prim.Native.Nat.{◌+◌}
 use native.Mathlib.Omega.{arith}
-use borrow.Author.Rules.{rules}
 use Rattle.rules.specs.Bytes.{number2}
 use Rattle.rules.specs.Records.{BA, kind_at, ballot_length}
 use Rattle.frames.specs.declared.Fault.TheVariants.{Sound}

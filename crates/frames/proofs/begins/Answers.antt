@@ -1,7 +1,5 @@
 use mathlib.Core.Path.{sym, ◌∙◌}
 use native.Mathlib.Omega.{arith}
-use borrow.Author.Rules.{rules}
-use borrow.Author.Tests.{not-true, not-false}
 use Rattle.frames.proofs.Framing.{begun_short, begun_mark, begun_sound}
 use Rattle.frames.proofs.begins.Goals as goal
 

@@ -1,5 +1,4 @@
 use native.Mathlib.Omega.{arith}
-use borrow.Author.Rules.{rules}
 use Rattle.frames.proofs.Framing.{kind_past}
 use Rattle.frames.proofs.kind.Goals as goal
 

@@ -1,6 +1,5 @@
 use mathlib.Core.Path.{sym, ◌∙◌}
 use native.Mathlib.Omega.{arith}
-use borrow.Author.Rules.{rules}
 use Rattle.frames.specs.declared.Fault.TheVariants.{Sound}
 use Rattle.frames.specs.Framed.{Begun}
 use Rattle.frames.proofs.Framing.{frame_begun, frame_number, frame_sound}

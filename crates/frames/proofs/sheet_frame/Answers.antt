@@ -1,6 +1,5 @@
 use mathlib.Core.Path.{sym, ◌∙◌}
 use native.Mathlib.Omega.{arith}
-use borrow.Author.Rules.{rules}
 use Rattle.rules.specs.Records.{RT, sheet_length}
 use Rattle.frames.specs.declared.Fault.TheVariants.{Sound}
 use Rattle.frames.specs.Framed.{Begun}

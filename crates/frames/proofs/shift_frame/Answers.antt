@@ -1,4 +1,3 @@
-use borrow.Author.Rules.{rules}
 use Rattle.frames.proofs.shift_frame.Goals as goal
 
 pub returns : goal.returns

@@ -1,4 +1,3 @@
-use borrow.Author.Rules.{rules}
 use Rattle.rules.specs.Header.{header}
 use Rattle.header.proofs.shown.Goals as goal
 

@@ -1,5 +1,4 @@
 use mathlib.Core.Path.{sym}
-use native.Mathlib.Omega.{arith}
 use Rattle.layout.proofs.Rounds.{from_first, from_later}
 use Rattle.layout.proofs.pairs_from.Goals as goal
 

@@ -1,6 +1,5 @@
 use mathlib.Core.Path.{sym, ◌∙◌}
 use native.Mathlib.Omega.{arith}
-use borrow.Author.Rules.{rules}
 use Rattle.layout.proofs.Rounds.{length_first, length_later, length_none}
 use Rattle.layout.proofs.record_length.Goals as goal
 

@@ -1,13 +1,9 @@
 use Prim.Native.Nat.{◌-◌, ◌≤◌}
-use mathlib.Core.Path.{◌≡◌, sym, ◌∙◌}
+use mathlib.Core.Path.{◌≡◌}
 use mathlib.Core.Bool.{true, not}
-use native.Mathlib.Omega.{arith}
-use borrow.Author.Tests.{not-true, not-false}
 use Rattle.numbers.specs.Below.{all_below}
-use Rattle.numbers.proofs.Tests.{all_none, all_more, all_fails, all_end}
 use Rattle.rules.specs.Receipts.{same}
 use Rattle.rules.specs.Notice.{name_of}
-use Rattle.names.proofs.Starting.{started_fewer}
 use Rattle.names.proofs.all_different.Given as goal
 
 abbrev pub invariant-loop-i : goal.invariant-loop-i

@@ -3,7 +3,6 @@ use native.Mathlib.Omega.{arith}
 use mathlib.Core.Bool.{and-false}
 use lib.ListN.{get_or-eq_default}
 use borrow.Author.Tests.{le-leb, lt-leb}
-use borrow.Author.Rules.{rules}
 use Rattle.names.proofs.fits.Goals as goal
 
 pub returns-then-letters-lt1 : goal.returns-then-letters-lt1

@@ -1,11 +1,7 @@
 use Prim.Native.Nat.{◌+◌, ◌-◌, ◌≤◌}
-use mathlib.Core.Path.{◌≡◌, refl, sym, ◌∙◌}
-use native.Mathlib.Omega.{arith}
+use mathlib.Core.Path.{◌≡◌}
 use lib.ListN.{length}
-use borrow.Author.Rules.{rules}
-use borrow.Author.Tests.{not-true, not-false}
 use Rattle.rules.specs.Notice.{letters_at}
-use Rattle.rules.proofs.Names.{letters_none, letters_end, letters_more}
 use Rattle.names.proofs.letters_at.Given as goal
 
 abbrev pub invariant-loop-i : goal.invariant-loop-i

@@ -2,7 +2,6 @@ use Prim.Native.Nat.{◌+◌, ◌-◌}
 use mathlib.Core.Path.{◌≡◌}
 use native.Mathlib.Omega.{arith}
 use lib.ListN.{get_or}
-use borrow.Author.Rules.{rules}
 use Rattle.rules.specs.Notice.{name_length}
 use Rattle.names.proofs.Starting.{Spans, spans, name_is}
 use Rattle.names.proofs.name.Goals.{Start}

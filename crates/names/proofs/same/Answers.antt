@@ -1,10 +1,7 @@
-use Prim.Native.Nat.{ℕ, ◌-◌, ◌≤◌}
-use mathlib.Core.Path.{◌≡◌, refl, sym, ◌∙◌}
+use Prim.Native.Nat.{ℕ}
+use mathlib.Core.Path.{refl, sym, ◌∙◌}
 use mathlib.Core.List.{List}
 use native.Mathlib.Omega.{arith}
-use lib.ListN.{length, drop}
-use borrow.Author.Rules.{rules}
-use Rattle.rules.specs.Receipts.{same}
 use Rattle.names.proofs.Comparing.{left_none, left_longer, left_other, left_equal}
 use Rattle.names.proofs.same.Goals.{At-loop-i}
 use Rattle.names.proofs.same.Goals as goal

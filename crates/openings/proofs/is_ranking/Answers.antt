@@ -1,15 +1,11 @@
-use Prim.Native.Nat.{suc, ◌-◌, ◌≤◌}
-use mathlib.Core.Path.{◌≡◌, sym, ◌∙◌}
-use mathlib.Core.Bool.{true}
+use Prim.Native.Nat.{suc}
+use mathlib.Core.Path.{sym, ◌∙◌}
 use native.Mathlib.Numerals.{add-one}
 use native.Mathlib.Omega.{arith}
-use borrow.Author.Tests.{not-true, not-false}
-use Rattle.numbers.specs.Below.{all_below}
 use Rattle.numbers.proofs.Tests.{all_none, all_more, all_fails, all_end}
 use Rattle.rules.specs.Bytes.{part}
 use Rattle.rules.specs.Count.{member}
 use Rattle.openings.proofs.Rankings.{ranking_is}
-use borrow.Author.Rules.{rules}
 use Rattle.openings.proofs.is_ranking.Goals as goal
 
 pub returns-then-not-lists : goal.returns-then-not-lists

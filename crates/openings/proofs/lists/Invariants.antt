@@ -1,13 +1,8 @@
 use Prim.Native.Nat.{◌-◌, ◌≤◌}
-use mathlib.Core.Path.{◌≡◌, sym, ◌∙◌}
+use mathlib.Core.Path.{◌≡◌}
 use mathlib.Core.Bool.{false}
-use native.Mathlib.Omega.{arith}
-use lib.ListN.{length, drop, length-drop}
-use lib.Seq.{get_or-drop}
 use Rattle.rules.specs.Bytes.{part}
 use Rattle.rules.specs.Count.{member}
-use Rattle.count.proofs.Members.{member_none, member_more, member_found}
-use borrow.Author.Rules.{rules}
 use Rattle.openings.proofs.lists.Given as goal
 
 abbrev pub invariant-loop-i : goal.invariant-loop-i

@@ -1,4 +1,3 @@
-use borrow.Author.Rules.{rules}
 use Rattle.group.specs.Elements.{parameters_of}
 use Rattle.openings.proofs.Matrices.{b_holds, b_fails}
 use Rattle.openings.proofs.pair_opens.Goals as goal

@@ -1,6 +1,5 @@
 use Rattle.output.proofs.Laws.{front}
 use mathlib.Core.List.{[], ◌∷◌}
-use borrow.Author.Rules.{rules}
 use Rattle.output.proofs.put_byte.Goals as goal
 
 pub returns : goal.returns

@@ -1,6 +1,5 @@
 use Rattle.output.proofs.Laws.{front}
 use Rattle.rules.specs.Bytes.{bytes2}
-use borrow.Author.Rules.{rules}
 use Rattle.output.proofs.put_number2.Goals as goal
 
 pub returns : goal.returns

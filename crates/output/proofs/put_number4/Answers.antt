@@ -2,7 +2,6 @@ use Rattle.output.proofs.Laws.{front}
 use Rattle.rules.specs.Bytes.{bytes4}
 use native.Mathlib.Omega.{arith}
 use lib.ListN.{length-set}
-use borrow.Author.Rules.{rules}
 use Rattle.output.proofs.put_number4.Goals as goal
 
 pub bounds-out-1 : goal.bounds-out-1

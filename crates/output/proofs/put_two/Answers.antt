@@ -6,7 +6,6 @@ use lib.ListN.{get_or}
 use Rattle.output.specs.Written.{written}
 use Rattle.rules.proofs.Lists.{two_of}
 use Rattle.output.proofs.Laws.{front}
-use borrow.Author.Rules.{rules}
 use Rattle.output.proofs.put_two.Goals as goal
 
 pub returns : goal.returns

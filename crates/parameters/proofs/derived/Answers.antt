@@ -1,4 +1,3 @@
-use borrow.Author.Rules.{rules}
 use Rattle.sha256.proofs.Feed.{fed_first, fed_more, fed_digest}
 use Rattle.parameters.proofs.Rules.{made}
 use Rattle.parameters.proofs.derived.Goals as goal

@@ -1,7 +1,6 @@
 use mathlib.Core.Path.{◌≡◌, sym, ◌∙◌}
 use mathlib.Core.Bool.{true}
-use borrow.Author.Rules.{rules}
-use borrow.Author.Tests.{eq-eqb, ne_eqb, not-true, not-false}
+use borrow.Author.Tests.{eq-eqb, ne_eqb}
 use Rattle.group.specs.Elements.{is_element}
 use Rattle.rules.specs.Group.{generators}
 use Rattle.parameters.proofs.generators_good.Goals.{Else-not-is_element}

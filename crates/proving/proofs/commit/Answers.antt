@@ -1,15 +1,13 @@
-use Prim.Native.Nat.{ℕ, ◌+◌, ◌-◌, ◌*◌, ◌≤◌}
+use Prim.Native.Nat.{◌+◌, ◌*◌, ◌≤◌}
 use mathlib.Core.Path.{◌≡◌, refl}
-use mathlib.Core.List.{List, ◌++◌, append-nil}
+use mathlib.Core.List.{append-nil}
 use native.Mathlib.Omega.{arith}
 use lib.ListN.{length, length-take, length-drop}
 use Rattle.numbers.specs.Below.{concat_below}
-use Rattle.sha256.specs.Feed.{Fed}
 use Rattle.group.specs.Elements.{parameters_of}
 use Rattle.statements.specs.Claims.{claim_of}
-use Rattle.output.specs.Written.{written}
 use Rattle.output.proofs.Laws.{none}
-use Rattle.proving.specs.Plans.{branch_said, draft_commitments, draft_branch}
+use Rattle.proving.specs.Plans.{branch_said, draft_commitments}
 use Rattle.statements.proofs.Branches.{fed_below_more}
 use Rattle.proving.proofs.Joining.{held_more, in_proof}
 use borrow.Author.Rules.{rules}

@@ -1,12 +1,6 @@
-use Prim.Native.Nat.{◌-◌, ◌*◌, ◌≤◌, ◌<◌}
-use mathlib.Core.Path.{◌≡◌, refl, ◌∙◌}
-use mathlib.Core.Logic.{⊎_elim}
-use native.Mathlib.Omega.{arith}
-use lib.ListN.{get_or}
-use Rattle.numbers.specs.Below.{sum_below}
+use Prim.Native.Nat.{◌-◌, ◌*◌, ◌≤◌}
+use mathlib.Core.Path.{◌≡◌}
 use Rattle.proving.specs.Plans.{false_complements}
-use Rattle.proving.proofs.Draws.{false_fits, false_low, against_true, against_false}
-use borrow.Author.Rules.{rules}
 use Rattle.proving.proofs.false_complements.Given as goal
 
 abbrev pub invariant-loop-l : goal.invariant-loop-l

@@ -7,7 +7,6 @@ use Rattle.sha256.proofs.Feed.{fed_digest}
 use Rattle.statements.specs.Claims.{claim_of}
 use Rattle.proving.proofs.Draws.{true_fits}
 use Rattle.proving.proofs.Joining.{in_proof, challenge_is, joined}
-use borrow.Author.Rules.{rules}
 use Rattle.proving.proofs.make.Goals.{After-branch_draws-at}
 use Rattle.proving.proofs.make.Goals as goal
 

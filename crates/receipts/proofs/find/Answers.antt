@@ -1,8 +1,6 @@
 use mathlib.Core.Path.{sym, ◌∙◌}
-use native.Mathlib.Omega.{arith}
 use lib.ListN.{length}
 use borrow.Author.Rules.{rules}
-use borrow.Author.Tests.{not-true, not-false, leb-true, leb-false}
 use Rattle.rules.proofs.Digests.{few_digests, rising}
 use Rattle.receipts.proofs.Answering.{list_bad, list_short, list_fine, refuses}
 use Rattle.receipts.proofs.find.Goals as goal

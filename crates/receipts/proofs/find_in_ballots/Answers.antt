@@ -3,7 +3,6 @@ use mathlib.Core.Path.{◌≡◌, sym, ap, ◌∙◌}
 use mathlib.Core.List.{List}
 use native.Mathlib.Omega.{arith}
 use lib.ListN.{length, length-replicate}
-use borrow.Author.Rules.{rules}
 use Rattle.sha256.specs.Message.{sha256}
 use Rattle.rules.specs.Receipts.{digest_count, numbers_found, find_in_ballots}
 use Rattle.receipts.proofs.Answering.{walk_refused, walk_sound, numbers_long, refuses, lists}

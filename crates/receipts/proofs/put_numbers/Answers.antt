@@ -1,9 +1,6 @@
-use Prim.Native.Nat.{◌-◌}
-use mathlib.Core.Path.{◌≡◌, refl}
+use mathlib.Core.Path.{refl}
 use native.Mathlib.Omega.{arith}
-use lib.ListN.{length}
-use borrow.Author.Rules.{rules}
-use Rattle.output.proofs.Laws.{Copied, copied_none, copied_more, copied_all}
+use Rattle.output.proofs.Laws.{copied_none, copied_more, copied_all}
 use Rattle.receipts.proofs.put_numbers.Goals as goal
 
 pub loop-i-init : goal.loop-i-init

@@ -1,7 +1,6 @@
 use Prim.Native.Nat.{ℕ}
 use mathlib.Core.Path.{◌≡◌, refl, ap, ◌∙◌}
 use native.Mathlib.Omega.{arith}
-use borrow.Author.Rules.{rules}
 use Rattle.rules.specs.Records.{kind_at, ballot_length}
 use Rattle.frames.specs.declared.Fault.TheVariants.{Sound}
 use Rattle.frames.specs.Framed.{Framed, BallotFramed}

@@ -1,11 +1,9 @@
-use Prim.Native.Nat.{◌-◌}
 use mathlib.Core.Path.{sym, ap, ◌∙◌}
 use native.Mathlib.Omega.{arith}
 use lib.ListN.{length}
-use borrow.Author.Rules.{rules}
 use Rattle.sha256.proofs.Lengths.{digest_long}
 use Rattle.receipts.specs.Steps.{HashedBy}
-use Rattle.receipts.proofs.Walking.{WalkedTo, walked_start, walked_refused, walked_more, walked_all}
+use Rattle.receipts.proofs.Walking.{walked_start, walked_refused, walked_more, walked_all}
 use Rattle.receipts.proofs.walk_ballots.Goals as goal
 
 pub loop-number-init : goal.loop-number-init

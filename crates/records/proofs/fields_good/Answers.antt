@@ -2,7 +2,6 @@ use Prim.Native.Nat.{◌+◌, ◌*◌}
 use mathlib.Core.Path.{◌≡◌, sym, ◌∙◌}
 use mathlib.Core.Bool.{true}
 use native.Mathlib.Omega.{arith}
-use borrow.Author.Rules.{rules}
 use Rattle.rules.specs.Proofs.{proof_fields}
 use Rattle.statements.specs.Walks.{pairs_fields}
 use Rattle.statements.proofs.Reading.{walk_to, walk_refused}

@@ -1,4 +1,3 @@
-use borrow.Author.Rules.{rules}
 use Rattle.sha256.proofs.Feed.{fed_first}
 use Rattle.records.proofs.labelled.Goals as goal
 

@@ -1,8 +1,7 @@
 use Prim.Native.Nat.{ℕ, ◌+◌}
-use mathlib.Core.Path.{◌≡◌, sym, ap, ap₂, ◌∙◌}
+use mathlib.Core.Path.{◌≡◌, ap₂, ◌∙◌}
 use mathlib.Core.Bool.{cond}
 use native.Mathlib.Omega.{arith}
-use borrow.Author.Rules.{rules}
 use Rattle.sha256.specs.Message.{sha256}
 use Rattle.rules.specs.Records.{kind_at, is_counted, ballot_length}
 use Rattle.rules.specs.Ballot.{ballot_fault}

@@ -1,5 +1,4 @@
 use native.Mathlib.Omega.{arith}
-use borrow.Author.Rules.{rules}
 use Rattle.round.proofs.read_record.Goals as goal
 
 pub returns-then-round-eq0 : goal.returns-then-round-eq0

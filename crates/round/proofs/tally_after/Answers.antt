@@ -1,5 +1,4 @@
 use mathlib.Core.Path.{refl}
-use borrow.Author.Rules.{rules}
 use Rattle.round.proofs.tally_after.Goals as goal
 
 pub with_row-requires : goal.with_row-requires

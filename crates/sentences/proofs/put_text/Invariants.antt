@@ -1,11 +1,8 @@
 use Prim.Native.Nat.{◌+◌, ◌-◌, ◌≤◌}
-use mathlib.Core.Path.{◌≡◌, refl, ap}
-use lib.ListN.{length}
-use native.Mathlib.Omega.{arith}
+use mathlib.Core.Path.{◌≡◌}
 use Rattle.numbers.specs.Below.{concat_below}
 use Rattle.sentences.specs.Pieces.{Put}
 use Rattle.sentences.specs.Lines.{line_named}
-use Rattle.sentences.proofs.Texts.{text_is, lines_long, lines_grow, put_no_line, put_one_more, put_all}
 use Rattle.sentences.proofs.put_text.Given as goal
 
 abbrev pub invariant-loop-m : goal.invariant-loop-m

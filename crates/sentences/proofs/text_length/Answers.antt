@@ -1,8 +1,7 @@
-use Prim.Native.Nat.{◌+◌, ◌*◌, ◌-◌, ◌≤◌}
+use Prim.Native.Nat.{◌+◌}
 use mathlib.Core.Path.{◌≡◌, refl, sym, ap, ◌∙◌}
 use lib.ListN.{length}
 use native.Mathlib.Omega.{arith}
-use Rattle.numbers.specs.Below.{concat_below}
 use Rattle.sentences.specs.Lines.{line_named}
 use Rattle.sentences.proofs.Texts.{text_is, none_long, lines_long}
 use Rattle.sentences.proofs.text_length.Goals as goal

@@ -1,10 +1,8 @@
 use Prim.Native.Nat.{◌+◌, ◌*◌, ◌-◌, ◌≤◌}
-use mathlib.Core.Path.{◌≡◌, refl, sym, ap, ◌∙◌}
+use mathlib.Core.Path.{◌≡◌}
 use lib.ListN.{length}
-use native.Mathlib.Omega.{arith}
 use Rattle.numbers.specs.Below.{concat_below}
 use Rattle.sentences.specs.Lines.{line_named}
-use Rattle.sentences.proofs.Texts.{text_is, none_long, lines_long}
 use Rattle.sentences.proofs.text_length.Given as goal
 
 abbrev pub invariant-loop-m : goal.invariant-loop-m

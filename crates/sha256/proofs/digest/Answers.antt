@@ -1,4 +1,3 @@
-use Rattle.std.proofs.Common.{rules}
 use Rattle.sha256.proofs.Feed.{fed_first, fed_digest}
 use Rattle.sha256.proofs.digest.Goals as goal
 

@@ -1,9 +1,6 @@
-use Rattle.std.proofs.Common.{◌≡◌, ◌-◌, ◌<◌, ◌≤◌, length, get_or, take, drop, sym, ap, ◌∙◌, arith, length-drop, take_all, rules}
-use Rattle.sha256.specs.Message.{sha256}
-use Rattle.sha256.specs.Stream.{Stream, empty, feed, feed_all, digest_of, pieces_from}
+use Rattle.std.proofs.Common.{◌≡◌, ◌-◌, ◌≤◌, length, drop}
+use Rattle.sha256.specs.Stream.{empty, feed_all, pieces_from}
 use Rattle.sha256.specs.Feed.{stream_of}
-use Rattle.sha256.proofs.Pieces.{pieces}
-use Rattle.sha256.proofs.Cuts.{cut_told, piece_more, piece_last}
 use Rattle.sha256.proofs.digest_in_pieces.Given as goal
 
 abbrev pub invariant-loop-cut : goal.invariant-loop-cut

@@ -1,4 +1,4 @@
-use Rattle.std.proofs.Common.{◌≡◌, ◌-◌, ◌*◌, ◌≤◌, length, take, sym, refl, ap, ◌∙◌, arith, length-set, take_all, rules}
+use Rattle.std.proofs.Common.{◌≡◌, sym, refl, ap, ◌∙◌, arith, length-set, take_all, rules}
 use Rattle.sha256.specs.Message.{bytes}
 use Rattle.sha256.proofs.Tail.{bytes_more}
 use Rattle.sha256.proofs.digits.Goals as goal

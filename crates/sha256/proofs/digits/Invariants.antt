@@ -1,6 +1,5 @@
-use Rattle.std.proofs.Common.{◌≡◌, ◌-◌, ◌*◌, ◌≤◌, length, take, sym, refl, ap, ◌∙◌, arith, length-set, take_all, rules}
+use Rattle.std.proofs.Common.{◌≡◌, ◌-◌, ◌*◌, ◌≤◌, length, take}
 use Rattle.sha256.specs.Message.{bytes}
-use Rattle.sha256.proofs.Tail.{bytes_more}
 use Rattle.sha256.proofs.digits.Given as goal
 
 abbrev pub invariant-loop-i : goal.invariant-loop-i

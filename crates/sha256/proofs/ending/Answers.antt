@@ -1,4 +1,4 @@
-use Rattle.std.proofs.Common.{arith, rules}
+use Rattle.std.proofs.Common.{arith}
 use Rattle.sha256.proofs.Tail.{ending_is}
 use Rattle.sha256.proofs.ending.Goals as goal
 

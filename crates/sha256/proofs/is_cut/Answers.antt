@@ -1,4 +1,4 @@
-use Rattle.std.proofs.Common.{arith, rules}
+use Rattle.std.proofs.Common.{arith}
 use Rattle.sha256.proofs.Cuts.{none_left, falls, rises}
 use Rattle.sha256.proofs.is_cut.Goals as goal
 

@@ -1,4 +1,4 @@
-use Rattle.std.proofs.Common.{◌≡◌, ◌-◌, ◌≤◌, length, take, drop, sym, ◌∙◌, arith, length-set, take_all, rules}
+use Rattle.std.proofs.Common.{◌≡◌, sym, ◌∙◌, arith, length-set, take_all}
 use Rattle.sha256.proofs.Stream.{part_more}
 use Rattle.sha256.proofs.part.Goals as goal
 

@@ -1,5 +1,4 @@
-use Rattle.std.proofs.Common.{◌≡◌, ◌-◌, ◌≤◌, length, take, drop, sym, ◌∙◌, arith, length-set, take_all, rules}
-use Rattle.sha256.proofs.Stream.{part_more}
+use Rattle.std.proofs.Common.{◌≡◌, ◌-◌, ◌≤◌, length, take, drop}
 use Rattle.sha256.proofs.part.Given as goal
 
 abbrev pub invariant-loop-k : goal.invariant-loop-k

@@ -1,6 +1,5 @@
 use mathlib.Core.Path.{refl, sym, ◌∙◌}
 use native.Mathlib.Omega.{arith}
-use borrow.Author.Rules.{rules}
 use Rattle.sheets.proofs.SheetSteps.{due_closed, due_open, wrong_out, closed, opened}
 use Rattle.sheets.proofs.counted.Goals as goal
 

@@ -1,18 +1,11 @@
 use Prim.Native.Nat.{ℕ, ◌+◌, ◌*◌, ◌-◌, ◌≤◌, ◌<◌}
-use mathlib.Core.Path.{◌≡◌, refl, sym, ◌∙◌}
+use mathlib.Core.Path.{◌≡◌}
 use mathlib.Core.Bool.{true}
-use native.Mathlib.Omega.{arith}
-use lib.Dec.{leb, ltb}
-use lib.ListN.{length, take, length-set}
-use borrow.Author.Rules.{rules}
+use lib.ListN.{length, take}
 use Rattle.numbers.specs.Below.{all_below}
-use Rattle.numbers.proofs.Tests.{all_none, all_more, all_end}
-use Rattle.fields.proofs.Values.{count_value, count_refused, exponent_value, exponent_refused}
 use Rattle.rules.specs.Bytes.{number2, number4}
 use Rattle.rules.specs.Count.{table}
-use Rattle.sheets.specs.Sheets.{Counted, exponent_of, count_good}
-use Rattle.sheets.proofs.SheetTable.{pass, count_large, exponent_large, table_more}
-use Rattle.sheets.proofs.SheetSteps.{exponents_more}
+use Rattle.sheets.specs.Sheets.{exponent_of, count_good}
 use Rattle.sheets.proofs.sheet_fields.Given as goal
 
 abbrev pub invariant-loop-i : goal.invariant-loop-i

@@ -1,16 +1,6 @@
-use Prim.Native.Nat.{◌-◌, ◌≤◌}
-use mathlib.Core.Path.{◌≡◌, sym, ◌∙◌}
-use mathlib.Core.Bool.{true}
+use mathlib.Core.Path.{sym, ◌∙◌}
 use native.Mathlib.Omega.{arith}
-use lib.ListN.{get_or}
-use borrow.Author.Rules.{rules}
-use borrow.Author.Tests.{not-true, not-false}
-use Rattle.numbers.specs.Below.{all_below}
 use Rattle.numbers.proofs.Tests.{all_none, all_more, all_fails, all_end}
-use Rattle.group.specs.Elements.{parameters_of}
-use Rattle.sheets.specs.Sheets.{exponent_of}
-use Rattle.rules.specs.Audit.{pair_opens}
-use Rattle.sheets.specs.Tallies.{element_of}
 use Rattle.sheets.proofs.tallies.Goals as goal
 
 pub returns-then-not-pair_opens : goal.returns-then-not-pair_opens

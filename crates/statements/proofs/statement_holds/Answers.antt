@@ -1,6 +1,5 @@
 use borrow.Author.Tests.{eq-eqb, ne_eqb}
 use Rattle.rules.specs.Proofs.{statement_holds}
-use borrow.Author.Rules.{rules}
 use Rattle.statements.proofs.statement_holds.Goals as goal
 
 pub returns-then-pow-left : goal.returns-then-pow-left

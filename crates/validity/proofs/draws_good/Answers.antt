@@ -1,14 +1,13 @@
-use Prim.Native.Nat.{ℕ, ◌-◌, ◌≤◌, ◌<◌}
+use Prim.Native.Nat.{ℕ, ◌≤◌, ◌<◌}
 use mathlib.Core.Path.{◌≡◌, sym}
 use mathlib.Core.List.{List}
-use mathlib.Core.Bool.{Bool, true, false, ◌&&◌}
+use mathlib.Core.Bool.{false, ◌&&◌}
 use native.Mathlib.Omega.{arith}
-use lib.Dec.{leb, ltb}
+use lib.Dec.{leb}
 use lib.ListN.{length, get_or}
 use borrow.Author.Tests.{le-leb, lt-leb, lt-ltb, le-ltb}
 use Rattle.numbers.specs.Below.{all_below}
 use Rattle.numbers.proofs.Tests.{all_none, all_more, all_fails, all_end}
-use borrow.Author.Rules.{rules}
 use Rattle.validity.proofs.draws_good.Invariants.{good}
 use Rattle.validity.proofs.draws_good.Goals as goal
 

@@ -1,14 +1,8 @@
-use Prim.Native.Nat.{ℕ, ◌-◌, ◌≤◌, ◌<◌}
 use mathlib.Core.Path.{◌≡◌, sym, ◌∙◌}
-use mathlib.Core.Bool.{Bool, true, ◌||◌}
-use mathlib.Core.List.{List}
 use native.Mathlib.Omega.{arith}
-use lib.ListN.{length, get_or}
-use borrow.Author.Tests.{eq-eqb, ne_eqb, not-true, not-false}
-use Rattle.numbers.specs.Below.{all_below}
+use lib.ListN.{length}
+use borrow.Author.Tests.{eq-eqb, ne_eqb}
 use Rattle.numbers.proofs.Tests.{all_none, all_more, all_fails, all_end}
-use Rattle.rules.specs.Records.{is_counted, is_audited}
-use borrow.Author.Rules.{rules}
 use Rattle.validity.proofs.kinds_good.Invariants.{good}
 use Rattle.validity.proofs.kinds_good.Goals as goal
 

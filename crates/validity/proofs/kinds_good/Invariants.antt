@@ -1,14 +1,10 @@
-use Prim.Native.Nat.{ℕ, ◌-◌, ◌≤◌, ◌<◌}
-use mathlib.Core.Path.{◌≡◌, sym, ◌∙◌}
+use Prim.Native.Nat.{ℕ, ◌-◌, ◌≤◌}
+use mathlib.Core.Path.{◌≡◌}
 use mathlib.Core.Bool.{Bool, true, ◌||◌}
 use mathlib.Core.List.{List}
-use native.Mathlib.Omega.{arith}
-use lib.ListN.{length, get_or}
-use borrow.Author.Tests.{eq-eqb, ne_eqb, not-true, not-false}
+use lib.ListN.{get_or}
 use Rattle.numbers.specs.Below.{all_below}
-use Rattle.numbers.proofs.Tests.{all_none, all_more, all_fails, all_end}
 use Rattle.rules.specs.Records.{is_counted, is_audited}
-use borrow.Author.Rules.{rules}
 use Rattle.validity.proofs.kinds_good.Given as goal
 
 abbrev pub good : (kinds : List ℕ) (b : ℕ) → Bool

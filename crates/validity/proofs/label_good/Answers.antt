@@ -1,7 +1,6 @@
 use mathlib.Core.Path.{◌∙◌}
 use lib.ListN.{length}
 use borrow.Author.Tests.{eq-eqb, ne_eqb}
-use borrow.Author.Rules.{rules}
 use Rattle.validity.proofs.label_good.Goals as goal
 
 pub returns-then-label-ne32 : goal.returns-then-label-ne32

@@ -4,7 +4,6 @@ use mathlib.Core.Bool.{true}
 use mathlib.Core.List.{List, []}
 use native.Mathlib.Nat.{mul-le-mul_right}
 use native.Mathlib.Omega.{arith}
-use borrow.Author.Tests.{not-true, not-false}
 use Rattle.sha256.specs.Message.{sha256}
 use Rattle.rules.specs.Group.{orders}
 use Rattle.rules.specs.Header.{ranked, sizes}
@@ -16,7 +15,6 @@ use Rattle.parameters.proofs.Rules.{orders_positive}
 use Rattle.validity.specs.Jobs.{job_of}
 use Rattle.validity.specs.Tests.{JobTested}
 use Rattle.validity.proofs.Tests.{group_positive, label_is, well_ranked, stops_sizes, stops_orders, stops_label, stops_length, stops_ranking, kinds_many, none_counted, some_counted_lem, stops_kinds, stops_uncounted}
-use borrow.Author.Rules.{rules}
 use Rattle.validity.proofs.up_to_kinds.Goals.{After-first_bad-bad, After-kinds_good, After-label_good, After-sizes_good, Else-bad-gt0, Else-not-kinds_good, Else-not-label_good, Else-not-orders_good, Else-not-sizes_good, Start}
 use Rattle.validity.proofs.up_to_kinds.Goals as goal
 

@@ -1,16 +1,12 @@
-use Prim.Native.Nat.{ℕ, ◌+◌, ◌*◌, ◌≤◌}
-use mathlib.Core.Path.{◌≡◌, ap, ◌∙◌}
+use Prim.Native.Nat.{ℕ, ◌*◌}
+use mathlib.Core.Path.{ap, ◌∙◌}
 use mathlib.Core.List.{List}
 use native.Mathlib.Omega.{arith}
-use lib.ListN.{get_or, length, length-take, length-drop}
-use Rattle.numbers.specs.Below.{concat_below}
-use Rattle.numbers.proofs.Blocks.{length_blocks}
-use Rattle.rules.specs.Bytes.{bytes4}
+use lib.ListN.{get_or, length-take, length-drop}
 use Rattle.output.specs.Written.{written}
 use Rattle.output.proofs.Laws.{more}
 use Rattle.rules.proofs.Sizes.{cells}
 use Rattle.ballots.proofs.Records.{length_exponents, audit_joined}
-use borrow.Author.Rules.{rules}
 use Rattle.ballots.proofs.audit.write_audit.Goals as goal
 
 pub returns : goal.returns

@@ -1,12 +1,11 @@
-use Prim.Native.Nat.{ℕ, ◌+◌, ◌-◌, ◌*◌, ◌≤◌}
+use Prim.Native.Nat.{ℕ, ◌+◌}
 use mathlib.Core.Path.{◌≡◌, refl, ◌∙◌}
 use mathlib.Core.List.{List}
 use native.Mathlib.Nat.{mul_comm}
 use native.Mathlib.Omega.{arith}
-use lib.ListN.{length, get_or, length-take, length-drop}
+use lib.ListN.{get_or, length-take, length-drop}
 use Rattle.numbers.specs.Below.{concat_below}
 use Rattle.rules.specs.Bytes.{bytes4}
-use Rattle.output.specs.Written.{written}
 use Rattle.output.proofs.Laws.{none, block_more}
 use borrow.Author.Rules.{rules}
 use Rattle.ballots.proofs.audit.write_exponents.Goals as goal

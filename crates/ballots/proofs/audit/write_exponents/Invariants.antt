@@ -1,14 +1,9 @@
-use Prim.Native.Nat.{ℕ, ◌+◌, ◌-◌, ◌*◌, ◌≤◌}
-use mathlib.Core.Path.{◌≡◌, refl, ◌∙◌}
-use mathlib.Core.List.{List}
-use native.Mathlib.Nat.{mul_comm}
-use native.Mathlib.Omega.{arith}
-use lib.ListN.{length, get_or, length-take, length-drop}
+use Prim.Native.Nat.{◌+◌, ◌-◌, ◌≤◌}
+use mathlib.Core.Path.{◌≡◌}
+use lib.ListN.{length, get_or}
 use Rattle.numbers.specs.Below.{concat_below}
 use Rattle.rules.specs.Bytes.{bytes4}
 use Rattle.output.specs.Written.{written}
-use Rattle.output.proofs.Laws.{none, block_more}
-use borrow.Author.Rules.{rules}
 use Rattle.ballots.proofs.audit.write_exponents.Given as goal
 
 abbrev pub invariant-loop-c : goal.invariant-loop-c

@@ -1,10 +1,6 @@
-use Prim.Native.Nat.{◌-◌, ◌*◌, ◌≤◌}
 use mathlib.Core.Path.{◌≡◌, refl, ◌∙◌}
-use mathlib.Core.List.{[], ◌∷◌}
 use native.Mathlib.Omega.{arith}
-use lib.ListN.{length, get_or}
 use Rattle.numbers.specs.Below.{concat_below}
-use Rattle.output.specs.Written.{written}
 use Rattle.output.proofs.Laws.{none, block_more}
 use borrow.Author.Rules.{rules}
 use Rattle.ballots.proofs.audit.write_ranking.Goals as goal

@@ -1,4 +1,4 @@
-use Prim.Native.Nat.{◌*◌, ◌≤◌}
+use Prim.Native.Nat.{◌≤◌}
 use native.Mathlib.Omega.{arith}
 use lib.ListN.{length, get_or}
 use mathlib.Core.Path.{◌∙◌}
@@ -7,7 +7,6 @@ use Rattle.jobs.specs.Records.{pair_bytes, matrix_of}
 use Rattle.jobs.proofs.Lengths.{length_pairs}
 use Rattle.ballots.proofs.Pages.{front_stands}
 use Rattle.rules.proofs.Sizes.{cells}
-use borrow.Author.Rules.{rules}
 use Rattle.ballots.proofs.ballot.put_matrix.Goals as goal
 
 pub write_pairs-requires : goal.write_pairs-requires

@@ -1,5 +1,5 @@
-use Prim.Native.Nat.{ℕ, ◌+◌, ◌*◌, ◌≤◌}
-use mathlib.Core.Path.{◌≡◌, sym, ap, ◌∙◌}
+use Prim.Native.Nat.{ℕ}
+use mathlib.Core.Path.{sym, ap, ◌∙◌}
 use mathlib.Core.List.{List}
 use native.Mathlib.Omega.{arith}
 use lib.ListN.{get_or, length-take, length-drop}
@@ -8,7 +8,6 @@ use Rattle.layout.proofs.Rounds.{length_audited}
 use Rattle.output.specs.Written.{written}
 use Rattle.output.proofs.Laws.{more}
 use Rattle.ballots.proofs.Records.{length_body, ballot_audited, ballot_other}
-use borrow.Author.Rules.{rules}
 use Rattle.ballots.proofs.ballot.write_ballot.Goals as goal
 
 pub write_audit-requires : goal.write_audit-requires

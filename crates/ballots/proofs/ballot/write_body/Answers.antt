@@ -1,4 +1,4 @@
-use Prim.Native.Nat.{ℕ, ◌+◌, ◌*◌, ◌≤◌}
+use Prim.Native.Nat.{ℕ, ◌*◌, ◌≤◌}
 use mathlib.Core.Path.{sym, ap, refl, ◌∙◌}
 use mathlib.Core.List.{List}
 use native.Mathlib.Omega.{arith}
@@ -12,7 +12,6 @@ use Rattle.jobs.specs.Records.{matrix_of}
 use Rattle.ballots.proofs.Pages.{pairs_back}
 use Rattle.rules.proofs.Sizes.{cells}
 use Rattle.ballots.proofs.Records.{body_joined, proofs_start}
-use borrow.Author.Rules.{rules}
 use Rattle.ballots.proofs.ballot.write_body.Goals.{After-put_matrix}
 use Rattle.ballots.proofs.ballot.write_body.Goals as goal
 

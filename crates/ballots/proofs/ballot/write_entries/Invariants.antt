@@ -1,18 +1,12 @@
 use Prim.Native.Nat.{ℕ, ◌-◌, ◌*◌, ◌≤◌}
-use mathlib.Core.Path.{◌≡◌, refl, ◌∙◌}
+use mathlib.Core.Path.{◌≡◌}
 use mathlib.Core.List.{List}
-use native.Mathlib.Nat.{mul_comm}
-use native.Mathlib.Omega.{arith}
-use lib.ListN.{length, get_or, length-take, length-drop}
+use lib.ListN.{length, get_or}
 use Rattle.numbers.specs.Below.{concat_below}
 use Rattle.sha256.specs.Feed.{Fed}
 use Rattle.group.specs.Elements.{parameters_of}
 use Rattle.output.specs.Written.{written}
-use Rattle.output.proofs.Laws.{none, block_more}
 use Rattle.ballots.specs.Parts.{entry_in}
-use Rattle.rules.proofs.Sizes.{cells}
-use Rattle.jobs.proofs.Lengths.{length_proof}
-use borrow.Author.Rules.{rules}
 use Rattle.ballots.proofs.ballot.write_entries.Given as goal
 
 abbrev pub invariant-loop-c : goal.invariant-loop-c

@@ -11,7 +11,6 @@ use Rattle.output.specs.Written.{written}
 use Rattle.ballots.proofs.Pages.{row_few, paged_same}
 use Rattle.rules.proofs.Sizes.{cells}
 use Rattle.ballots.proofs.Entries.{spread_part, planned_entry, entry_is}
-use borrow.Author.Rules.{rules}
 use Rattle.ballots.proofs.ballot.write_entry.Goals.{After-opened-v}
 use Rattle.ballots.proofs.ballot.write_entry.Goals as goal
 

@@ -8,7 +8,6 @@ use Rattle.output.specs.Written.{written}
 use Rattle.output.proofs.Laws.{more}
 use Rattle.rules.proofs.Sizes.{cells}
 use Rattle.ballots.proofs.Records.{length_entries, proofs_joined}
-use borrow.Author.Rules.{rules}
 use Rattle.ballots.proofs.ballot.write_proofs.Goals as goal
 
 pub write_lines-requires : goal.write_lines-requires

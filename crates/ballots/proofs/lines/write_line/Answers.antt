@@ -14,7 +14,6 @@ use Rattle.ballots.proofs.Pages.{paged_same}
 use Rattle.ballots.proofs.Secrets.{line_sum_lem}
 use Rattle.rules.proofs.Sizes.{cells}
 use Rattle.ballots.proofs.Entries.{spread_part, planned_line, line_ready, line_is, line_says}
-use borrow.Author.Rules.{rules}
 use Rattle.ballots.proofs.lines.write_line.Goals.{After-line_of-line}
 use Rattle.ballots.proofs.lines.write_line.Goals as goal
 

@@ -1,13 +1,10 @@
-use Prim.Native.Nat.{ℕ, ◌+◌, ◌-◌, ◌≤◌}
+use Prim.Native.Nat.{◌+◌}
 use mathlib.Core.Path.{◌≡◌, refl, ◌∙◌}
-use mathlib.Core.List.{List}
 use native.Mathlib.Nat.{mul_comm}
 use native.Mathlib.Omega.{arith}
-use lib.ListN.{length, get_or, length-take, length-drop}
+use lib.ListN.{get_or, length-take, length-drop}
 use Rattle.numbers.specs.Below.{concat_below}
-use Rattle.sha256.specs.Feed.{Fed}
 use Rattle.group.specs.Elements.{parameters_of}
-use Rattle.output.specs.Written.{written}
 use Rattle.output.proofs.Laws.{none, block_more}
 use Rattle.ballots.specs.Parts.{line_of}
 use Rattle.ballots.proofs.Entries.{length_line}

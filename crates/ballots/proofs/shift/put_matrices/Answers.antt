@@ -8,7 +8,6 @@ use Rattle.ballots.specs.Parts.{old_matrix, new_matrix}
 use Rattle.jobs.proofs.Lengths.{length_pairs}
 use Rattle.ballots.proofs.Pages.{front_stands, two_stand}
 use Rattle.ballots.proofs.Shifts.{count_few, cells_few}
-use borrow.Author.Rules.{rules}
 use Rattle.ballots.proofs.shift.put_matrices.Goals as goal
 
 pub write_pairs-requires : goal.write_pairs-requires

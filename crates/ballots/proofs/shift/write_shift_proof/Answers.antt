@@ -10,7 +10,6 @@ use Rattle.output.specs.Written.{written}
 use Rattle.ballots.proofs.Pages.{paged_same}
 use Rattle.ballots.proofs.Entries.{spread_part}
 use Rattle.ballots.proofs.Shifts.{count_few, cells_few, planned_shift, shift_proof_is}
-use borrow.Author.Rules.{rules}
 use Rattle.ballots.proofs.shift.write_shift_proof.Goals as goal
 
 pub witnesses-witness-requires : goal.witnesses-witness-requires

@@ -1,11 +1,9 @@
-use Prim.Native.Nat.{◌+◌, ◌-◌, ◌*◌, ◌≤◌}
+use Prim.Native.Nat.{◌+◌, ◌*◌}
 use mathlib.Core.Path.{◌≡◌, refl, ◌∙◌}
-use mathlib.Core.Logic.{⊎_elim}
 use native.Mathlib.Omega.{arith}
 use Rattle.numbers.specs.Below.{sum_below}
 use Rattle.ballots.specs.Parts.{sum_but}
 use Rattle.ballots.proofs.Secrets.{sum_more, sum_passed, stride_up}
-use borrow.Author.Rules.{rules}
 use Rattle.ballots.proofs.sums.sum_of.Goals.{else-i-but, then-i-but}
 use Rattle.ballots.proofs.sums.sum_of.Goals as goal
 
@@ -18,9 +16,9 @@ loop-i-preserved c =
     let l = c.loop-i in
     let f = c.args in
     (elim c.if-i-but.branch [
-          then-i-but w ↦ (omega arith, rw w.sum-is (omega (arith, w.shared_slice_known-then-i-but-1.given (f.at + f.stride * l.i))), w.sum-is ∙ sum_more f.draws.now f.at f.stride f.but l.i l.sum l.invariant.2 w.if-i-but.true)
-        | else-i-but w ↦ (omega arith, rw w.sum-is (omega arith), w.sum-is ∙ sum_passed f.draws.now f.at f.stride f.but l.i l.sum l.invariant.2 w.if-i-but.false)
-        ])
+      | then-i-but w ↦ (omega arith, rw w.sum-is (omega (arith, w.shared_slice_known-then-i-but-1.given (f.at + f.stride * l.i))), w.sum-is ∙ sum_more f.draws.now f.at f.stride f.but l.i l.sum l.invariant.2 w.if-i-but.true)
+      | else-i-but w ↦ (omega arith, rw w.sum-is (omega arith), w.sum-is ∙ sum_passed f.draws.now f.at f.stride f.but l.i l.sum l.invariant.2 w.if-i-but.false)
+    ])
 
 pub overflow_mul-sum : goal.overflow_mul-sum
 overflow_mul-sum c = omega (arith, stride_up c.args.stride c.loop-i.i c.args.count (omega arith), c)

@@ -1,11 +1,6 @@
-use Prim.Native.Nat.{◌+◌, ◌-◌, ◌*◌, ◌≤◌}
-use mathlib.Core.Path.{◌≡◌, refl, ◌∙◌}
-use mathlib.Core.Logic.{⊎_elim}
-use native.Mathlib.Omega.{arith}
-use Rattle.numbers.specs.Below.{sum_below}
+use Prim.Native.Nat.{◌-◌, ◌*◌, ◌≤◌}
+use mathlib.Core.Path.{◌≡◌}
 use Rattle.ballots.specs.Parts.{sum_but}
-use Rattle.ballots.proofs.Secrets.{sum_more, sum_passed, stride_up}
-use borrow.Author.Rules.{rules}
 use Rattle.ballots.proofs.sums.sum_of.Given as goal
 
 abbrev pub invariant-loop-i : goal.invariant-loop-i

@@ -1,12 +1,10 @@
-use Prim.Native.Nat.{ℕ, ◌+◌, ◌-◌, ◌*◌, ◌≤◌, ◌<◌, ◌^◌}
+use Prim.Native.Nat.{ℕ, ◌+◌, ◌*◌, ◌≤◌, ◌<◌, ◌^◌}
 use mathlib.Core.Path.{◌≡◌, refl, ◌∙◌}
 use native.Mathlib.Nat.{mul-le-mul_right}
 use native.Mathlib.Omega.{arith}
 use lib.ListN.{length, get_or, set, replicate}
-use Rattle.ballots.specs.Parts.{Witnessed}
 use Rattle.statements.proofs.Lines.{row_below}
 use Rattle.ballots.proofs.Secrets.{witnessed_none, witnessed_more, witness_first, witness_second, witness_later, source_within}
-use borrow.Author.Rules.{rules}
 use Rattle.ballots.proofs.sums.witnesses.Goals.{After-shared_slice_known-1, After-source_of-from}
 use Rattle.ballots.proofs.sums.witnesses.Goals as goal
 

@@ -1,8 +1,7 @@
-use Prim.Native.Nat.{ℕ, ◌-◌}
+use Prim.Native.Nat.{◌-◌}
 use mathlib.Core.Path.{◌≡◌, ap, ◌∙◌}
 use native.Mathlib.Omega.{arith}
 use Rattle.jobs.specs.Job.{record_draws}
-use borrow.Author.Rules.{rules}
 use Rattle.boards.proofs.records.draws_before.Goals as goal
 
 pub returns : goal.returns

@@ -2,7 +2,7 @@ use Prim.Native.Nat.{ℕ, suc, ◌+◌, ◌*◌, ◌≤◌}
 use mathlib.Core.Path.{◌≡◌, refl, ap, subst, ◌∙◌}
 use mathlib.Core.List.{List}
 use native.Mathlib.Omega.{arith}
-use lib.ListN.{length, get_or}
+use lib.ListN.{length}
 use Rattle.jobs.specs.Job as J
 use Rattle.jobs.specs.Job.{kind_of}
 use Rattle.jobs.specs.Board.{job_draws}
@@ -16,7 +16,6 @@ use Rattle.boards.specs.Parts.{board_job, head_group, draws_before}
 use Rattle.boards.proofs.Plans.{ballot_is}
 use Rattle.jobs.proofs.Draws.{draws_within}
 use Rattle.statements.proofs.Lines.{row_below}
-use borrow.Author.Rules.{rules}
 use Rattle.boards.proofs.records.write_first.Goals.{Start}
 use Rattle.boards.proofs.records.write_first.Goals as goal
 

@@ -1,4 +1,4 @@
-use Prim.Native.Nat.{ℕ, suc, ◌+◌, ◌*◌, ◌-◌, ◌≤◌, ◌<◌}
+use Prim.Native.Nat.{ℕ, suc, ◌+◌, ◌*◌, ◌-◌, ◌≤◌}
 use mathlib.Core.Path.{◌≡◌, refl, sym, ap, ◌∙◌}
 use mathlib.Core.List.{List, [], ◌∷◌, ◌++◌}
 use native.Mathlib.Omega.{arith}
@@ -14,7 +14,6 @@ use Rattle.count.specs.State.{list_of}
 use Rattle.boards.specs.Parts.{board_job, head_group, Later}
 use Rattle.statements.proofs.Lines.{row_below}
 use Rattle.boards.proofs.Plans.{place_is, none_later, later_is, shifting}
-use borrow.Author.Rules.{rules}
 use Rattle.boards.proofs.records.write_later.Goals.{After-write_shift-arg-1, Start}
 use Rattle.boards.proofs.records.write_later.Goals as goal
 

@@ -1,5 +1,5 @@
-use Prim.Native.Nat.{ℕ, suc, ◌+◌, ◌-◌, ◌*◌, ◌≤◌}
-use mathlib.Core.Path.{◌≡◌, refl, sym, ap, ◌∙◌}
+use Prim.Native.Nat.{ℕ, suc, ◌+◌, ◌≤◌}
+use mathlib.Core.Path.{◌≡◌, refl, sym, ◌∙◌}
 use native.Mathlib.Omega.{arith}
 use lib.ListN.{length, get_or, length-take, length-drop}
 use Rattle.numbers.specs.Below.{sum_below, concat_below}
@@ -10,7 +10,6 @@ use Rattle.jobs.specs.Job as J
 use Rattle.jobs.specs.Job.{kind_of, record_draws}
 use Rattle.jobs.specs.Board.{record_bytes}
 use Rattle.jobs.proofs.Draws.{draws_mono}
-use Rattle.output.specs.Written.{written}
 use Rattle.output.proofs.Laws.{none, joined_more}
 use Rattle.count.specs.State.{list_of}
 use Rattle.boards.specs.Parts.{board_job, head_group}

@@ -1,21 +1,14 @@
 use Prim.Native.Nat.{ℕ, suc, ◌+◌, ◌-◌, ◌*◌, ◌≤◌}
-use mathlib.Core.Path.{◌≡◌, refl, sym, ap, ◌∙◌}
-use native.Mathlib.Omega.{arith}
-use lib.ListN.{length, get_or, length-take, length-drop}
+use mathlib.Core.Path.{◌≡◌}
+use lib.ListN.{length, get_or}
 use Rattle.numbers.specs.Below.{sum_below, concat_below}
-use Rattle.numbers.proofs.Sums.{sum_more, sum_within}
 use Rattle.sha256.specs.Message.{sha256}
 use Rattle.rules.specs.Records.{record_length}
-use Rattle.jobs.specs.Job as J
-use Rattle.jobs.specs.Job.{kind_of, record_draws}
+use Rattle.jobs.specs.Job.{record_draws}
 use Rattle.jobs.specs.Board.{record_bytes}
-use Rattle.jobs.proofs.Draws.{draws_mono}
 use Rattle.output.specs.Written.{written}
-use Rattle.output.proofs.Laws.{none, joined_more}
 use Rattle.count.specs.State.{list_of}
 use Rattle.boards.specs.Parts.{board_job, head_group}
-use Rattle.boards.proofs.RoundPlans.{length_records}
-use borrow.Author.Rules.{rules}
 use Rattle.boards.proofs.records.write_records.Given as goal
 
 abbrev pub invariant-loop-b : goal.invariant-loop-b

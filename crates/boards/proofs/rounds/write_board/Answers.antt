@@ -1,6 +1,5 @@
 use Rattle.output.proofs.Laws.{more}
 use Rattle.boards.proofs.RoundPlans.{length_header}
-use borrow.Author.Rules.{rules}
 use Rattle.boards.proofs.rounds.write_board.Goals as goal
 
 pub returns : goal.returns

@@ -1,19 +1,17 @@
-use Prim.Native.Nat.{ℕ, suc, ◌+◌, ◌*◌, ◌-◌, ◌≤◌, ◌<◌}
-use mathlib.Core.Path.{◌≡◌, refl, sym, ap, ◌∙◌, fun_ext}
+use Prim.Native.Nat.{ℕ, suc}
+use mathlib.Core.Path.{sym, ap, ◌∙◌}
 use mathlib.Core.List.{List, ◌++◌}
 use native.Mathlib.Omega.{arith}
-use lib.ListN.{length, get_or, length-take, length-drop}
+use lib.ListN.{length-take, length-drop}
 use Rattle.sha256.specs.Message.{sha256}
 use Rattle.jobs.specs.Job as J
 use Rattle.jobs.specs.Job.{kind_of}
-use Rattle.jobs.specs.Records.{sheet_bytes}
 use Rattle.output.specs.Written.{written}
 use Rattle.output.proofs.Laws.{more}
 use Rattle.boards.specs.Parts.{board_job, head_group, plan_records}
 use Rattle.jobs.proofs.Draws.{columns_within, draws_mono}
 use Rattle.boards.proofs.RoundPlans.{length_records, from_round}
 use Rattle.count.specs.State.{list_of}
-use borrow.Author.Rules.{rules}
 use Rattle.boards.proofs.rounds.write_round.Goals.{Start}
 use Rattle.boards.proofs.rounds.write_round.Goals as goal
 

@@ -1,19 +1,10 @@
-use Prim.Native.Nat.{ℕ, suc, ◌+◌, ◌*◌, ◌-◌, ◌≤◌, ◌<◌}
-use mathlib.Core.Path.{◌≡◌, refl, ap, ◌∙◌}
-use native.Mathlib.Omega.{arith}
-use lib.ListN.{length, get_or, length-take, length-drop}
-use Rattle.numbers.specs.Below.{sum_below, concat_below}
+use Prim.Native.Nat.{ℕ, suc, ◌+◌, ◌*◌, ◌-◌, ◌≤◌}
+use mathlib.Core.Path.{◌≡◌}
+use lib.ListN.{length}
+use Rattle.numbers.specs.Below.{concat_below}
 use Rattle.sha256.specs.Message.{sha256}
-use Rattle.rules.specs.Records.{record_length, sheet_length}
-use Rattle.jobs.specs.Job as J
-use Rattle.jobs.specs.Job.{kind_of, round_draws, round_at}
 use Rattle.output.specs.Written.{written}
-use Rattle.output.proofs.Laws.{none}
-use Rattle.plain.proofs.Counted.{draws_more, length_more}
 use Rattle.boards.specs.Parts.{board_job, head_group, draws_before, bytes_before, round_bytes}
-use Rattle.jobs.proofs.Draws.{draws_mono}
-use Rattle.boards.proofs.RoundPlans.{place_mono, place_next, round_ready, plan_is, rounds_more}
-use borrow.Author.Rules.{rules}
 use Rattle.boards.proofs.rounds.write_rounds.Given as goal
 
 abbrev pub invariant-loop-m : goal.invariant-loop-m

@@ -1,15 +1,11 @@
-use Prim.Native.Nat.{ℕ, ◌+◌, ◌-◌, ◌*◌, ◌≤◌, ◌<◌}
+use Prim.Native.Nat.{ℕ, ◌+◌, ◌<◌}
 use mathlib.Core.Path.{◌≡◌, refl, sym, ap, ◌∙◌}
-use mathlib.Core.Bool.{true, cond}
-use mathlib.Core.Logic.{⊎_elim}
 use native.Mathlib.Omega.{arith}
 use borrow.Author.Tests.{eq-eqb, ne_eqb}
 use lib.ListN.{length, get_or}
 use Rattle.numbers.specs.Below.{sum_below}
 use Rattle.numbers.proofs.Sums.{sum_more, sum_passed}
-use Rattle.rules.specs.Records.{is_counted}
 use Rattle.jobs.specs.Job.{record_draws}
-use borrow.Author.Rules.{rules}
 use Rattle.boards.proofs.sheet.column_sum.Goals.{Then-kind-eq-COUNTED, else-kind-eq-COUNTED, then-kind-eq-COUNTED}
 use Rattle.boards.proofs.sheet.column_sum.Goals as goal
 
@@ -32,22 +28,22 @@ loop-b-preserved c =
     let ahead : ℕ → ℕ = λ b. sum_below b (λ i. record_draws f.n (get_or f.kinds.now i 0) f.m) in
     let next = sum_more l.b (ahead l.b) _ (λ i. record_draws f.n (get_or f.kinds.now i 0) f.m) refl (r.0 ∙ rw told) in
     (elim c.if-kind-eq-COUNTED.branch [
-          then-kind-eq-COUNTED w ↦ let counted = eq-eqb (get_or f.kinds.now l.b 0) 0 (sym told ∙ w.if-kind-eq-COUNTED.true) in
-    let drawn : get_or f.draws.now l.at 0 ≡ get_or f.draws.now (f.from + ahead l.b) 0 = ap (λ (d : ℕ). get_or f.draws.now d 0) l.invariant.3 in (
-      omega arith,
-      rw w.sum-is (omega (arith, l.invariant.1, w.wide64-sum.ensures.1)),
-      omega (arith, r.1, l.invariant.2),
-      omega (arith, next, l.invariant.3),
-      w.sum-is ∙ sum_more l.b l.sum _ _ l.invariant.4 (w.wide64-sum.ensures.0 ∙ drawn ∙ rw counted),
-    )
-        | else-kind-eq-COUNTED w ↦ let audited = ne_eqb (get_or f.kinds.now l.b 0) 0 (λ e. w.if-kind-eq-COUNTED.false (told ∙ e)) in (
-      omega arith,
-      rw w.sum-is (omega (arith, l.invariant.1)),
-      omega (arith, r.1, l.invariant.2),
-      omega (arith, next, l.invariant.3),
-      w.sum-is ∙ sum_passed l.b l.sum _ l.invariant.4 (rw audited),
-    )
-        ])
+      | then-kind-eq-COUNTED w ↦ let counted = eq-eqb (get_or f.kinds.now l.b 0) 0 (sym told ∙ w.if-kind-eq-COUNTED.true) in
+          let drawn : get_or f.draws.now l.at 0 ≡ get_or f.draws.now (f.from + ahead l.b) 0 = ap (λ (d : ℕ). get_or f.draws.now d 0) l.invariant.3 in (
+            omega arith,
+            rw w.sum-is (omega (arith, l.invariant.1, w.wide64-sum.ensures.1)),
+            omega (arith, r.1, l.invariant.2),
+            omega (arith, next, l.invariant.3),
+            w.sum-is ∙ sum_more l.b l.sum _ _ l.invariant.4 (w.wide64-sum.ensures.0 ∙ drawn ∙ rw counted),
+          )
+      | else-kind-eq-COUNTED w ↦ let audited = ne_eqb (get_or f.kinds.now l.b 0) 0 (λ e. w.if-kind-eq-COUNTED.false (told ∙ e)) in (
+        omega arith,
+        rw w.sum-is (omega (arith, l.invariant.1)),
+        omega (arith, r.1, l.invariant.2),
+        omega (arith, next, l.invariant.3),
+        w.sum-is ∙ sum_passed l.b l.sum _ l.invariant.4 (rw audited),
+      )
+    ])
 
 pub bounds-draws-at : goal.bounds-draws-at
 bounds-draws-at c = there (goal.at.bounds-draws-at c).Then-kind-eq-COUNTED

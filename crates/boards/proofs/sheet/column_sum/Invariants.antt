@@ -1,15 +1,10 @@
-use Prim.Native.Nat.{ℕ, ◌+◌, ◌-◌, ◌*◌, ◌≤◌, ◌<◌}
-use mathlib.Core.Path.{◌≡◌, refl, sym, ap, ◌∙◌}
-use mathlib.Core.Bool.{true, cond}
-use mathlib.Core.Logic.{⊎_elim}
-use native.Mathlib.Omega.{arith}
-use borrow.Author.Tests.{eq-eqb, ne_eqb}
-use lib.ListN.{length, get_or}
+use Prim.Native.Nat.{◌+◌, ◌-◌, ◌*◌, ◌≤◌}
+use mathlib.Core.Path.{◌≡◌}
+use mathlib.Core.Bool.{cond}
+use lib.ListN.{get_or}
 use Rattle.numbers.specs.Below.{sum_below}
-use Rattle.numbers.proofs.Sums.{sum_more, sum_passed}
 use Rattle.rules.specs.Records.{is_counted}
 use Rattle.jobs.specs.Job.{record_draws}
-use borrow.Author.Rules.{rules}
 use Rattle.boards.proofs.sheet.column_sum.Given as goal
 
 abbrev pub invariant-loop-b : goal.invariant-loop-b

@@ -1,15 +1,13 @@
-use Prim.Native.Nat.{ℕ, ◌+◌, ◌*◌, ◌-◌, ◌%◌, ◌≤◌}
+use Prim.Native.Nat.{ℕ, ◌+◌, ◌%◌}
 use mathlib.Core.Path.{◌≡◌, refl, ap, ◌∙◌}
-use mathlib.Core.List.{List, [], ◌∷◌, ◌++◌, append-nil}
+use mathlib.Core.List.{append-nil}
 use native.Mathlib.Omega.{arith}
-use lib.ListN.{length, get_or}
-use Rattle.numbers.specs.Below.{sum_below, concat_below}
-use Rattle.jobs.specs.Job.{record_draws}
-use Rattle.output.specs.Written.{written}
+use lib.ListN.{get_or}
+use Rattle.numbers.specs.Below.{concat_below}
 use Rattle.output.proofs.Laws.{more}
-use Rattle.boards.proofs.Columns.{column_is, columns_to, columns_more, sheet_whole}
+use Rattle.boards.proofs.Columns.{column_is, columns_more, sheet_whole}
 use borrow.Author.Rules.{rules}
-use Rattle.boards.proofs.sheet.write_sheet.Invariants.{ahead, columns}
+use Rattle.boards.proofs.sheet.write_sheet.Invariants.{ahead}
 use Rattle.boards.proofs.sheet.write_sheet.Goals as goal
 
 pub loop-i-init : goal.loop-i-init

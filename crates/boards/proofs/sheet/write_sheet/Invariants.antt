@@ -1,14 +1,11 @@
-use Prim.Native.Nat.{ℕ, ◌+◌, ◌*◌, ◌-◌, ◌%◌, ◌≤◌}
-use mathlib.Core.Path.{◌≡◌, refl, ap, ◌∙◌}
-use mathlib.Core.List.{List, [], ◌∷◌, ◌++◌, append-nil}
-use native.Mathlib.Omega.{arith}
+use Prim.Native.Nat.{ℕ, ◌+◌, ◌-◌, ◌≤◌}
+use mathlib.Core.Path.{◌≡◌}
+use mathlib.Core.List.{List, ◌++◌}
 use lib.ListN.{length, get_or}
-use Rattle.numbers.specs.Below.{sum_below, concat_below}
+use Rattle.numbers.specs.Below.{sum_below}
 use Rattle.jobs.specs.Job.{record_draws}
 use Rattle.output.specs.Written.{written}
-use Rattle.output.proofs.Laws.{more}
-use Rattle.boards.proofs.Columns.{column_is, columns_to, columns_more, sheet_whole}
-use borrow.Author.Rules.{rules}
+use Rattle.boards.proofs.Columns.{columns_to}
 use Rattle.boards.proofs.sheet.write_sheet.Given as goal
 
 -- the draws of round m ahead of ballot b's record

@@ -1,6 +1,5 @@
 use mathlib.Core.Path.{refl}
 use Rattle.output.proofs.Laws.{more}
-use borrow.Author.Rules.{rules}
 use Rattle.boards.proofs.sheet.write_tally.Goals as goal
 
 pub returns : goal.returns

@@ -1,5 +1,4 @@
 use Rattle.compression.specs.Words.{σ₀}
-use Rattle.std.proofs.Common.{rules}
 use Rattle.compression.proofs.words.lower0.Goals as goal
 
 pub returns : goal.returns

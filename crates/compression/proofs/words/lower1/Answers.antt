@@ -1,5 +1,4 @@
 use Rattle.compression.specs.Words.{σ₁}
-use Rattle.std.proofs.Common.{rules}
 use Rattle.compression.proofs.words.lower1.Goals as goal
 
 pub returns : goal.returns

@@ -1,5 +1,4 @@
 use Rattle.compression.specs.Words.{ROTR}
-use Rattle.std.proofs.Common.{rules}
 use Rattle.compression.proofs.words.rotr.Goals as goal
 
 pub returns : goal.returns

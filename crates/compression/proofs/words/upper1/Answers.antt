@@ -1,5 +1,4 @@
 use Rattle.compression.specs.Words.{Σ₁}
-use Rattle.std.proofs.Common.{rules}
 use Rattle.compression.proofs.words.upper1.Goals as goal
 
 pub returns : goal.returns

@@ -1,6 +1,5 @@
 use mathlib.Core.Path.{refl}
 use Rattle.count.proofs.Picks.{kept_over, result_over}
-use borrow.Author.Rules.{rules}
 use Rattle.count.proofs.Count.close.Goals as goal
 
 pub returns : goal.returns

@@ -1,8 +1,6 @@
-use Prim.Native.Nat.{◌-◌}
 use borrow.Author.Tests.{eq-eqb, ne_eqb}
 use Rattle.rules.specs.Count.{closes}
 use Rattle.count.proofs.Picks.{sheets_many}
-use borrow.Author.Rules.{rules}
 use Rattle.count.proofs.Count.closes.Goals as goal
 
 pub returns-then-self-n : goal.returns-then-self-n

@@ -1,10 +1,6 @@
-use Prim.Native.Nat.{suc, ◌-◌, ◌≤◌}
+use Prim.Native.Nat.{suc}
 use mathlib.Core.Path.{◌≡◌, sym, ◌∙◌}
-use mathlib.Core.Bool.{false}
 use native.Mathlib.Omega.{arith}
-use lib.ListN.{take}
-use borrow.Author.Rules.{rules}
-use Rattle.numbers.specs.Below.{any_below}
 use Rattle.numbers.proofs.Tests.{any_none, any_more, any_holds}
 use Rattle.rules.specs.Count.{member, majority, count_of}
 use Rattle.count.specs.State.{counts_on, list_of, passes}

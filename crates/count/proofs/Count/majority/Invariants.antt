@@ -1,14 +1,10 @@
 use Prim.Native.Nat.{suc, ◌-◌, ◌≤◌}
-use mathlib.Core.Path.{◌≡◌, sym, ◌∙◌}
+use mathlib.Core.Path.{◌≡◌}
 use mathlib.Core.Bool.{false}
-use native.Mathlib.Omega.{arith}
 use lib.ListN.{take}
-use borrow.Author.Rules.{rules}
 use Rattle.numbers.specs.Below.{any_below}
-use Rattle.numbers.proofs.Tests.{any_none, any_more, any_holds}
-use Rattle.rules.specs.Count.{member, majority, count_of}
-use Rattle.count.specs.State.{counts_on, list_of, passes}
-use Rattle.count.proofs.Picks.{passes_is, gone_is}
+use Rattle.rules.specs.Count.{member, count_of}
+use Rattle.count.specs.State.{list_of, passes}
 use Rattle.count.proofs.Count.majority.Given as goal
 
 abbrev pub invariant-loop-i : goal.invariant-loop-i

@@ -1,5 +1,4 @@
 use Rattle.count.specs.State.{standing_of}
-use Prim.Native.Nat.{◌-◌}
 use mathlib.Core.Path.{refl}
 use native.Mathlib.Omega.{arith}
 use Rattle.count.proofs.Count.new.Goals as goal

@@ -1,6 +1,5 @@
 use mathlib.Core.Path.{refl}
 use Rattle.count.proofs.Picks.{kept_next, standing_next}
-use borrow.Author.Rules.{rules}
 use Rattle.count.proofs.Count.next.Goals as goal
 
 pub returns : goal.returns

@@ -1,8 +1,6 @@
 use Prim.Native.Nat.{◌-◌, ◌≤◌}
-use mathlib.Core.Path.{◌≡◌, ◌∙◌}
-use native.Mathlib.Omega.{arith}
+use mathlib.Core.Path.{◌≡◌}
 use Rattle.count.specs.State.{pick_of, counts_on, standing_of}
-use Rattle.count.proofs.Picks.{picked_small, pick_none, pick_more}
 use Rattle.count.proofs.Count.pick.Given as goal
 
 abbrev pub invariant-loop-i : goal.invariant-loop-i

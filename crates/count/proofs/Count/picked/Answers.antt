@@ -3,7 +3,6 @@ use mathlib.Core.Path.{◌≡◌, sym, ◌∙◌}
 use mathlib.Core.Bool.{Bool, true, false, cond}
 use native.Mathlib.Omega.{arith}
 use borrow.Author.Tests.{eq-eqb}
-use borrow.Author.Rules.{rules}
 use Rattle.count.specs.State.{counts_on, standing_of, picked}
 use Rattle.count.proofs.Picks.{gone_is, picked_on}
 use Rattle.count.proofs.Count.picked.Goals as goal

@@ -1,5 +1,4 @@
 use native.Mathlib.Omega.{arith}
-use borrow.Author.Rules.{rules}
 use Rattle.count.proofs.Count.replaces.Goals as goal
 
 pub returns-then-least : goal.returns-then-least

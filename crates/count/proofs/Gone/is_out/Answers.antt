@@ -1,10 +1,5 @@
-use Prim.Native.Nat.{◌-◌, ◌≤◌}
 use mathlib.Core.Path.{◌≡◌, sym, ◌∙◌}
 use native.Mathlib.Omega.{arith}
-use mathlib.Core.Bool.{false}
-use lib.ListN.{take}
-use borrow.Author.Rules.{rules}
-use Rattle.rules.specs.Count.{member}
 use Rattle.count.proofs.Members.{member_none, member_more, member_found}
 use Rattle.count.proofs.Gone.is_out.Goals as goal
 

@@ -1,14 +1,9 @@
-use Prim.Native.Nat.{◌+◌, ◌-◌, ◌≤◌}
-use mathlib.Core.Path.{◌≡◌, refl, sym, ◌∙◌}
+use Prim.Native.Nat.{◌-◌, ◌≤◌}
+use mathlib.Core.Path.{◌≡◌}
 use mathlib.Core.Bool.{cond}
-use mathlib.Core.Logic.{⊎_elim}
-use native.Mathlib.Omega.{arith}
-use borrow.Author.Tests.{eq-eqb, ne_eqb}
 use lib.ListN.{get_or}
 use Rattle.numbers.specs.Below.{sum_below}
-use Rattle.numbers.proofs.Sums.{sum_more, sum_passed}
 use Rattle.rules.specs.Records.{is_counted}
-use borrow.Author.Rules.{rules}
 use Rattle.plain.proofs.kinds.counted.Given as goal
 
 abbrev pub invariant-loop-b : goal.invariant-loop-b

@@ -1,11 +1,8 @@
-use Prim.Native.Nat.{ℕ, ◌+◌, ◌-◌, ◌*◌, ◌≤◌, ◌<◌}
+use Prim.Native.Nat.{ℕ, ◌+◌, ◌*◌, ◌≤◌, ◌<◌}
 use mathlib.Core.Path.{◌≡◌, sym, ◌∙◌}
 use native.Mathlib.Nat.{mul-le-mul_right}
 use native.Mathlib.Omega.{arith}
-use Rattle.jobs.specs.Job.{Job}
-use Rattle.jobs.specs.Write.{first_bad}
 use Rattle.numbers.proofs.Search.{first_none, first_passed, first_found}
-use borrow.Author.Rules.{rules}
 use Rattle.plain.proofs.rankings.first_bad.Goals as goal
 
 up : (b k n : ℕ) → b < k → (b + 1) * n ≤ k * n

@@ -1,11 +1,7 @@
-use Prim.Native.Nat.{ℕ, ◌+◌, ◌-◌, ◌*◌, ◌≤◌, ◌<◌}
-use mathlib.Core.Path.{◌≡◌, sym, ◌∙◌}
-use native.Mathlib.Nat.{mul-le-mul_right}
-use native.Mathlib.Omega.{arith}
+use Prim.Native.Nat.{◌-◌, ◌≤◌}
+use mathlib.Core.Path.{◌≡◌}
 use Rattle.jobs.specs.Job.{Job}
 use Rattle.jobs.specs.Write.{first_bad}
-use Rattle.numbers.proofs.Search.{first_none, first_passed, first_found}
-use borrow.Author.Rules.{rules}
 use Rattle.plain.proofs.rankings.first_bad.Given as goal
 
 abbrev pub invariant-loop-b : goal.invariant-loop-b

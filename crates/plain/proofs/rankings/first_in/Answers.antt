@@ -1,13 +1,11 @@
-use Prim.Native.Nat.{◌+◌, ◌-◌, ◌≤◌}
+use Prim.Native.Nat.{◌+◌}
 use mathlib.Core.Path.{◌≡◌, refl, sym, ◌∙◌}
 use mathlib.Core.Bool.{true, false}
 use native.Mathlib.Omega.{arith}
-use lib.ListN.{get_or, drop}
-use Rattle.rules.specs.Bytes.{part}
-use Rattle.rules.specs.Count.{still_in, first_in}
+use lib.ListN.{get_or}
+use Rattle.rules.specs.Count.{still_in}
 use Rattle.count.specs.State.{list_of}
 use Rattle.plain.proofs.Firsts.{first_found, first_passed, first_none}
-use borrow.Author.Rules.{rules}
 use Rattle.plain.proofs.rankings.first_in.Goals as goal
 
 pub returns-then-is_in : goal.returns-then-is_in

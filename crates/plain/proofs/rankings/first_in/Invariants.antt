@@ -1,13 +1,9 @@
-use Prim.Native.Nat.{◌+◌, ◌-◌, ◌≤◌}
-use mathlib.Core.Path.{◌≡◌, refl, sym, ◌∙◌}
-use mathlib.Core.Bool.{true, false}
-use native.Mathlib.Omega.{arith}
-use lib.ListN.{get_or, drop}
+use Prim.Native.Nat.{◌-◌, ◌≤◌}
+use mathlib.Core.Path.{◌≡◌}
+use lib.ListN.{drop}
 use Rattle.rules.specs.Bytes.{part}
-use Rattle.rules.specs.Count.{still_in, first_in}
+use Rattle.rules.specs.Count.{first_in}
 use Rattle.count.specs.State.{list_of}
-use Rattle.plain.proofs.Firsts.{first_found, first_passed, first_none}
-use borrow.Author.Rules.{rules}
 use Rattle.plain.proofs.rankings.first_in.Given as goal
 
 abbrev pub invariant-loop-i : goal.invariant-loop-i

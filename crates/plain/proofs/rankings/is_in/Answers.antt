@@ -3,7 +3,6 @@ use mathlib.Core.Bool.{not}
 use native.Mathlib.Omega.{arith}
 use Rattle.count.specs.State.{list_of}
 use Rattle.plain.proofs.Firsts.{in_below, in_above, in_left}
-use borrow.Author.Rules.{rules}
 use Rattle.plain.proofs.rankings.is_in.Goals as goal
 
 pub returns-then-c-lt1 : goal.returns-then-c-lt1

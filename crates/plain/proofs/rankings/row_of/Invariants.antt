@@ -1,11 +1,7 @@
 use Prim.Native.Nat.{◌+◌, ◌-◌, ◌≤◌}
-use mathlib.Core.Path.{◌≡◌, sym, ◌∙◌}
-use native.Mathlib.Omega.{arith}
+use mathlib.Core.Path.{◌≡◌}
 use lib.ListN.{take, drop}
-use lib.Seq.{get_or-take}
 use Rattle.jobs.specs.Job.{row_of}
-use Rattle.plain.proofs.Lists.{place_found, place_passed, place_end}
-use borrow.Author.Rules.{rules}
 use Rattle.plain.proofs.rankings.row_of.Given as goal
 
 abbrev pub invariant-loop-i : goal.invariant-loop-i

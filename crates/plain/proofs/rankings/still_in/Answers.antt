@@ -1,8 +1,6 @@
-use Prim.Native.Nat.{◌+◌, ◌-◌, ◌≤◌, ◌<◌}
+use Prim.Native.Nat.{◌+◌, ◌<◌}
 use mathlib.Core.Path.{◌≡◌, refl, sym, ap, ◌∙◌}
-use mathlib.Core.Logic.{⊎_elim}
 use native.Mathlib.Omega.{arith}
-use borrow.Author.Tests.{not-true, not-false}
 use lib.ListN.{length, get_or, length-append}
 use Rattle.rules.specs.Bytes.{part}
 use Rattle.rules.specs.Count.{member}
@@ -11,7 +9,6 @@ use Rattle.rules.specs.Answers.{with_zeros}
 use Rattle.count.specs.State.{list_of}
 use Rattle.plain.proofs.Lists.{standing_out, standing_in, part_few}
 use Rattle.count.proofs.Firsts.{pad_more}
-use borrow.Author.Rules.{rules}
 use Rattle.plain.proofs.rankings.still_in.Goals.{else-not-is_out, then-not-is_out}
 use Rattle.plain.proofs.rankings.still_in.Goals as goal
 
@@ -31,14 +28,14 @@ loop-i-preserved c =
     let few = part_few gone s f.at l.i in
     let st = remaining gone (part s f.at l.i) in
     (elim c.if-not-is_out.branch [
-          then-not-is_out w ↦ let e = told ∙ w.if-not-is_out.true in (
-      omega arith,
-      w.list-is ∙ rw (l.invariant.1, l.invariant.2) (pad_more st (length st) x refl (omega (arith, c.requires)) ∙ ap with_zeros (standing_in gone s f.at l.i h e)),
-      w.found-is ∙ rw (← (standing_in gone s f.at l.i h e)) (simp length-append (omega (arith, l.invariant.2))),
-    )
-        | else-not-is_out w ↦ let e = told ∙ w.if-not-is_out.false in
-    (omega arith, w.list-is ∙ l.invariant.1 ∙ ap with_zeros (standing_out gone s f.at l.i h e), w.found-is ∙ l.invariant.2 ∙ ap length (standing_out gone s f.at l.i h e))
-        ])
+      | then-not-is_out w ↦ let e = told ∙ w.if-not-is_out.true in (
+        omega arith,
+        w.list-is ∙ rw (l.invariant.1, l.invariant.2) (pad_more st (length st) x refl (omega (arith, c.requires)) ∙ ap with_zeros (standing_in gone s f.at l.i h e)),
+        w.found-is ∙ rw (← (standing_in gone s f.at l.i h e)) (simp length-append (omega (arith, l.invariant.2))),
+      )
+      | else-not-is_out w ↦ let e = told ∙ w.if-not-is_out.false in
+          (omega arith, w.list-is ∙ l.invariant.1 ∙ ap with_zeros (standing_out gone s f.at l.i h e), w.found-is ∙ l.invariant.2 ∙ ap length (standing_out gone s f.at l.i h e))
+    ])
 
 pub bounds-list-found : goal.bounds-list-found
 bounds-list-found c = omega (arith, part_few (list_of c.args.gone) c.args.rankings.now c.args.at c.loop-i.i, c.loop-i.invariant.2, c.requires)

@@ -1,17 +1,10 @@
-use Prim.Native.Nat.{◌+◌, ◌-◌, ◌≤◌, ◌<◌}
-use mathlib.Core.Path.{◌≡◌, refl, sym, ap, ◌∙◌}
-use mathlib.Core.Logic.{⊎_elim}
-use native.Mathlib.Omega.{arith}
-use borrow.Author.Tests.{not-true, not-false}
-use lib.ListN.{length, get_or, length-append}
+use Prim.Native.Nat.{◌-◌, ◌≤◌}
+use mathlib.Core.Path.{◌≡◌}
+use lib.ListN.{length}
 use Rattle.rules.specs.Bytes.{part}
-use Rattle.rules.specs.Count.{member}
 use Rattle.jobs.specs.Job.{remaining}
 use Rattle.rules.specs.Answers.{with_zeros}
 use Rattle.count.specs.State.{list_of}
-use Rattle.plain.proofs.Lists.{standing_out, standing_in, part_few}
-use Rattle.count.proofs.Firsts.{pad_more}
-use borrow.Author.Rules.{rules}
 use Rattle.plain.proofs.rankings.still_in.Given as goal
 
 abbrev pub invariant-loop-i : goal.invariant-loop-i

@@ -1,17 +1,15 @@
-use Prim.Native.Nat.{ℕ, ◌+◌, ◌-◌, ◌*◌, ◌≤◌}
+use Prim.Native.Nat.{◌-◌, ◌*◌}
 use mathlib.Core.Path.{◌≡◌, sym, ◌∙◌}
-use mathlib.Core.List.{List}
 use native.Mathlib.Omega.{arith}
-use lib.ListN.{length, get_or}
+use lib.ListN.{get_or}
 use Rattle.rules.specs.Bytes.{part}
 use Rattle.rules.specs.Records.{is_counted}
-use Rattle.rules.specs.Count.{plain_count, count_from, table_where}
+use Rattle.rules.specs.Count.{plain_count}
 use Rattle.rules.proofs.Leaving.{not_last}
 use Rattle.rules.proofs.Lists.{length_where}
-use Rattle.count.specs.State.{Kept, standing_of}
+use Rattle.count.specs.State.{standing_of}
 use Rattle.count.proofs.Picks.{sheets_many}
 use Rattle.plain.proofs.Counted.{count_goes, count_ends, far}
-use borrow.Author.Rules.{rules}
 use Rattle.plain.proofs.rounds.count.Invariants.{ranked}
 use Rattle.plain.proofs.rounds.count.Goals as goal
 

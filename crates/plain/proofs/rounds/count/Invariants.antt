@@ -1,17 +1,11 @@
 use Prim.Native.Nat.{ℕ, ◌+◌, ◌-◌, ◌*◌, ◌≤◌}
-use mathlib.Core.Path.{◌≡◌, sym, ◌∙◌}
+use mathlib.Core.Path.{◌≡◌}
 use mathlib.Core.List.{List}
-use native.Mathlib.Omega.{arith}
 use lib.ListN.{length, get_or}
 use Rattle.rules.specs.Bytes.{part}
 use Rattle.rules.specs.Records.{is_counted}
 use Rattle.rules.specs.Count.{plain_count, count_from, table_where}
-use Rattle.rules.proofs.Leaving.{not_last}
-use Rattle.rules.proofs.Lists.{length_where}
 use Rattle.count.specs.State.{Kept, standing_of}
-use Rattle.count.proofs.Picks.{sheets_many}
-use Rattle.plain.proofs.Counted.{count_goes, count_ends, far}
-use borrow.Author.Rules.{rules}
 use Rattle.plain.proofs.rounds.count.Given as goal
 
 -- the counted rankings

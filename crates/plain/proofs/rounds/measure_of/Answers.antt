@@ -1,10 +1,8 @@
-use Prim.Native.Nat.{◌+◌, ◌-◌, ◌*◌, ◌≤◌}
 use mathlib.Core.Path.{◌≡◌, refl, ◌∙◌}
 use native.Mathlib.Omega.{arith}
 use lib.ListN.{get_or}
 use Rattle.jobs.specs.Job.{round_draws, round_at}
 use Rattle.plain.proofs.Counted.{draws_more, length_more}
-use borrow.Author.Rules.{rules}
 use Rattle.plain.proofs.rounds.measure_of.Goals as goal
 
 pub loop-m-init : goal.loop-m-init

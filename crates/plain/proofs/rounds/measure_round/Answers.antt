@@ -1,12 +1,7 @@
-use Prim.Native.Nat.{◌+◌, ◌-◌, ◌*◌, ◌≤◌}
 use mathlib.Core.Path.{◌≡◌, refl, ◌∙◌}
 use native.Mathlib.Omega.{arith}
-use lib.ListN.{get_or}
 use Rattle.numbers.specs.Below.{sum_below}
 use Rattle.numbers.proofs.Sums.{sum_more}
-use Rattle.rules.specs.Records.{record_length}
-use Rattle.jobs.specs.Job.{record_draws}
-use borrow.Author.Rules.{rules}
 use Rattle.plain.proofs.rounds.measure_round.Goals as goal
 
 pub loop-b-init : goal.loop-b-init

@@ -3,7 +3,6 @@ use mathlib.Core.Path.{sym}
 use native.Mathlib.Omega.{arith}
 use Rattle.rules.proofs.Sizes.{cells}
 use Rattle.plain.proofs.Sizes.{Later, later, draws_first, draws_later, draws_none}
-use borrow.Author.Rules.{rules}
 use Rattle.plain.proofs.rounds.record_draws.Goals.{Then-kind-eq-COUNTED, Then-m-eq0}
 use Rattle.plain.proofs.rounds.record_draws.Goals as goal
 

@@ -1,20 +1,17 @@
 use native.Mathlib.Nat.{mul-le-mul_right}
 use lib.Dec.{eqb}
-use Prim.Native.Nat.{ℕ, suc, ◌+◌, ◌-◌, ◌*◌, ◌≤◌, ◌<◌}
+use Prim.Native.Nat.{ℕ, suc, ◌+◌, ◌*◌, ◌≤◌, ◌<◌}
 use mathlib.Core.Path.{◌≡◌, refl, sym, ◌∙◌}
 use mathlib.Core.Bool.{Bool}
-use mathlib.Core.Logic.{⊎_elim}
 use native.Mathlib.Omega.{arith}
 use borrow.Author.Tests.{eq-eqb, ne_eqb}
-use lib.ListN.{length, get_or}
+use lib.ListN.{get_or}
 use mathlib.Core.List.{List}
 use Rattle.rules.specs.Bytes.{part}
 use Rattle.rules.specs.Records.{is_counted}
-use Rattle.rules.specs.Count.{votes_for, table_where}
 use Rattle.count.specs.State.{list_of}
 use Rattle.plain.proofs.Lists.{get_or_zeros as zeros}
 use Rattle.plain.proofs.Firsts.{one, votes_more, votes_passed, votes_none, counts_are}
-use borrow.Author.Rules.{rules}
 use Rattle.plain.proofs.votes.tally.Goals.{else-wide-eq-COUNTED, then-wide-eq-COUNTED}
 use Rattle.plain.proofs.votes.tally.Goals as goal
 
@@ -29,20 +26,20 @@ loop-b-preserved c =
     let p : ℕ → Bool = λ d. is_counted (get_or f.kinds.now d 0) in
     let r : ℕ → List ℕ = λ d. part f.rankings.now (d * f.n) f.n in
     (elim c.if-wide-eq-COUNTED.branch [
-          then-wide-eq-COUNTED w ↦ let e = eq-eqb (get_or f.kinds.now l.b 0) 0 (sym c.wide.ensures ∙ w.if-wide-eq-COUNTED.true) in
-    let v = w.voted-next.ensures in (
-      omega arith,
-      rw w.counts-is v.0,
-      λ i h. rw (w.counts-is, v.1 i h) (omega (arith, l.invariant.2 i h, one (eqb w.first_in.result (suc i)))),
-      λ i h. rw w.counts-is (v.1 i h ∙ rw (l.invariant.3 i h, w.first_in.ensures) (sym (votes_more f.n gone p r l.b (suc i) e))),
-    )
-        | else-wide-eq-COUNTED w ↦ let e = ne_eqb (get_or f.kinds.now l.b 0) 0 (λ z. w.if-wide-eq-COUNTED.false (c.wide.ensures ∙ z)) in (
-      omega arith,
-      rw w.counts-is l.invariant.1,
-      λ i h. rw w.counts-is (omega (arith, l.invariant.2 i h)),
-      λ i h. rw w.counts-is (l.invariant.3 i h ∙ sym (votes_passed f.n gone p r l.b (suc i) e)),
-    )
-        ])
+      | then-wide-eq-COUNTED w ↦ let e = eq-eqb (get_or f.kinds.now l.b 0) 0 (sym c.wide.ensures ∙ w.if-wide-eq-COUNTED.true) in
+          let v = w.voted-next.ensures in (
+            omega arith,
+            rw w.counts-is v.0,
+            λ i h. rw (w.counts-is, v.1 i h) (omega (arith, l.invariant.2 i h, one (eqb w.first_in.result (suc i)))),
+            λ i h. rw w.counts-is (v.1 i h ∙ rw (l.invariant.3 i h, w.first_in.ensures) (sym (votes_more f.n gone p r l.b (suc i) e))),
+          )
+      | else-wide-eq-COUNTED w ↦ let e = ne_eqb (get_or f.kinds.now l.b 0) 0 (λ z. w.if-wide-eq-COUNTED.false (c.wide.ensures ∙ z)) in (
+        omega arith,
+        rw w.counts-is l.invariant.1,
+        λ i h. rw w.counts-is (omega (arith, l.invariant.2 i h)),
+        λ i h. rw w.counts-is (l.invariant.3 i h ∙ sym (votes_passed f.n gone p r l.b (suc i) e)),
+      )
+    ])
 
 pub returns : goal.returns
 returns c =

@@ -1,20 +1,10 @@
-use native.Mathlib.Nat.{mul-le-mul_right}
-use lib.Dec.{eqb}
-use Prim.Native.Nat.{ℕ, suc, ◌+◌, ◌-◌, ◌*◌, ◌≤◌, ◌<◌}
-use mathlib.Core.Path.{◌≡◌, refl, sym, ◌∙◌}
-use mathlib.Core.Bool.{Bool}
-use mathlib.Core.Logic.{⊎_elim}
-use native.Mathlib.Omega.{arith}
-use borrow.Author.Tests.{eq-eqb, ne_eqb}
+use Prim.Native.Nat.{ℕ, suc, ◌-◌, ◌*◌, ◌≤◌, ◌<◌}
+use mathlib.Core.Path.{◌≡◌}
 use lib.ListN.{length, get_or}
-use mathlib.Core.List.{List}
 use Rattle.rules.specs.Bytes.{part}
 use Rattle.rules.specs.Records.{is_counted}
 use Rattle.rules.specs.Count.{votes_for, table_where}
 use Rattle.count.specs.State.{list_of}
-use Rattle.plain.proofs.Lists.{get_or_zeros as zeros}
-use Rattle.plain.proofs.Firsts.{one, votes_more, votes_passed, votes_none, counts_are}
-use borrow.Author.Rules.{rules}
 use Rattle.plain.proofs.votes.tally.Given as goal
 
 abbrev pub invariant-loop-b : goal.invariant-loop-b

@@ -3,7 +3,6 @@ use mathlib.Core.Path.{◌≡◌}
 use native.Mathlib.Omega.{arith}
 use lib.ListN.{length, get_or, length-set}
 use Rattle.plain.proofs.Firsts.{vote_one, vote_none}
-use borrow.Author.Rules.{rules}
 use Rattle.plain.proofs.votes.voted.Goals as goal
 
 pub returns-then-c-le8 : goal.returns-then-c-le8

@@ -1,4 +1,3 @@
-use borrow.Author.Rules.{rules}
 use Rattle.proving.proofs.branch.after_challenge.Goals as goal
 
 pub returns : goal.returns

@@ -1,14 +1,11 @@
 use Prim.Native.Nat.{ℕ, ◌+◌, ◌-◌, ◌*◌, ◌≤◌}
-use mathlib.Core.Path.{◌≡◌, refl, ◌∙◌}
+use mathlib.Core.Path.{◌≡◌}
 use mathlib.Core.List.{List}
-use native.Mathlib.Omega.{arith}
 use lib.ListN.{length}
 use Rattle.rules.specs.Bytes.{bytes4, part}
 use Rattle.output.specs.Written.{written}
 use Rattle.jobs.specs.Prover.{branch_bytes}
 use Rattle.proving.specs.Plans.{answers}
-use Rattle.proving.proofs.Branches.{branch_none, answer_more}
-use borrow.Author.Rules.{rules}
 use Rattle.proving.proofs.branch.answer.Given as goal
 
 abbrev pub invariant-loop-i : goal.invariant-loop-i

@@ -1,22 +1,15 @@
-use Prim.Native.Nat.{ℕ, ◌+◌, ◌-◌, ◌*◌, ◌^◌, ◌≤◌, ◌<◌}
-use mathlib.Core.Path.{◌≡◌, refl, ◌∙◌}
+use Prim.Native.Nat.{ℕ, ◌+◌, ◌-◌, ◌≤◌}
+use mathlib.Core.Path.{◌≡◌}
 use mathlib.Core.List.{List, ◌++◌}
-use native.Mathlib.Omega.{arith}
-use lib.Dec.{eqb}
-use lib.ListN.{length, get_or, length-take, length-drop}
+use lib.ListN.{length, get_or}
 use Rattle.group.specs.Elements.{parameters_of}
 use Rattle.rules.specs.Bytes.{bytes4}
 use Rattle.sha256.specs.Feed.{Fed}
 use Rattle.statements.specs.Claims.{claim_of}
 use Rattle.output.specs.Written.{written}
-use Rattle.rules.specs.Proofs.{Commitments, statement_bytes}
+use Rattle.rules.specs.Proofs.{Commitments}
 use Rattle.jobs.specs.Prover.{commitment_bytes, branch_bytes}
 use Rattle.proving.specs.Plans.{branch_said, drafted}
-use Rattle.proving.proofs.Stating.{stated_as}
-use Rattle.proving.proofs.Draws.{draft_near, draft_at, draft_fits, draft_low}
-use Rattle.statements.proofs.Branches.{fed_below_none, fed_below_more}
-use Rattle.proving.proofs.Branches.{branch_none, branch_more, drafted_branch}
-use borrow.Author.Rules.{rules}
 use Rattle.proving.proofs.branch.commit_branch.Given as goal
 
 abbrev pub invariant-loop-i : goal.invariant-loop-i

@@ -1,5 +1,4 @@
 use native.Mathlib.Omega.{arith}
-use borrow.Author.Rules.{rules}
 use Rattle.proving.proofs.branch.first_challenge.Goals as goal
 
 pub offset_bounds-draws-at : goal.offset_bounds-draws-at

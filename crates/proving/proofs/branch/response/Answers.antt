@@ -1,6 +1,5 @@
 use mathlib.Core.Path.{◌∙◌}
 use native.Mathlib.Nat.{add-mod-mod}
-use borrow.Author.Rules.{rules}
 use Rattle.proving.proofs.branch.response.Goals as goal
 
 pub returns : goal.returns

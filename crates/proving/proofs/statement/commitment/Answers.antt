@@ -1,5 +1,4 @@
 use mathlib.Core.Path.{◌∙◌}
-use borrow.Author.Rules.{rules}
 use Rattle.proving.proofs.statement.commitment.Goals as goal
 
 pub returns : goal.returns

@@ -1,7 +1,6 @@
 use Rattle.group.specs.Elements.{parameters_of}
 use Rattle.statements.specs.Values.{statement_of}
 use Rattle.proving.proofs.Stating.{stated_true, stated_false}
-use borrow.Author.Rules.{rules}
 use Rattle.proving.proofs.statement.put_draft.Goals as goal
 
 pub returns-then-known : goal.returns-then-known

@@ -1,7 +1,6 @@
 use mathlib.Core.Path.{refl}
 use Rattle.sha256.proofs.Feed.{fed_more}
 use Rattle.output.proofs.Laws.{more}
-use borrow.Author.Rules.{rules}
 use Rattle.proving.proofs.statement.put_statement.Goals as goal
 
 pub returns : goal.returns

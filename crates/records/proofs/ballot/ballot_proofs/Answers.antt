@@ -1,6 +1,4 @@
 use mathlib.Core.Path.{sym, ◌∙◌}
-use borrow.Author.Rules.{rules}
-use borrow.Author.Tests.{not-true, not-false}
 use Rattle.records.proofs.ballot.ballot_proofs.Goals as goal
 
 pub returns-then-not-entries_good : goal.returns-then-not-entries_good

@@ -2,8 +2,6 @@ use Prim.Native.Nat.{ℕ, ◌+◌, ◌≤◌, ◌<◌}
 use mathlib.Core.Path.{sym, ap, ◌∙◌}
 use native.Mathlib.Omega.{arith}
 use lib.ListN.{length}
-use borrow.Author.Rules.{rules}
-use borrow.Author.Tests.{not-true, not-false}
 use Rattle.rules.specs.Records.{ballot_length}
 use Rattle.frames.specs.declared.Fault.TheVariants.{Sound}
 use Rattle.frames.specs.Framed.{Framed, BallotFramed}

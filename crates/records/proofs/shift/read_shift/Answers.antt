@@ -1,8 +1,6 @@
 use Prim.Native.Nat.{◌+◌, ◌-◌}
 use mathlib.Core.Path.{sym, ◌∙◌}
 use native.Mathlib.Omega.{arith}
-use borrow.Author.Rules.{rules}
-use borrow.Author.Tests.{not-true, not-false}
 use Rattle.rules.specs.Bytes.{number2}
 use Rattle.rules.specs.Records.{SH, shift_length}
 use Rattle.frames.specs.declared.Fault.TheVariants.{Sound}

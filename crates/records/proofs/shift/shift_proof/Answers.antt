@@ -1,7 +1,6 @@
 use Prim.Native.Nat.{◌+◌, ◌*◌, ◌-◌, ◌≤◌}
 use native.Mathlib.Nat.{mul-le-mul_right}
 use native.Mathlib.Omega.{arith}
-use borrow.Author.Rules.{rules}
 use Rattle.sha256.proofs.Feed.{fed_more}
 use Rattle.rules.specs.Shift.{shift_context}
 use Rattle.statements.specs.Claims.{claim_of, Within}

@@ -1,13 +1,12 @@
-use Prim.Native.Nat.{suc, ◌-◌, ◌≤◌}
+use Prim.Native.Nat.{suc}
 use mathlib.Core.Path.{◌≡◌, sym, ◌∙◌}
 use lib.ListN.{length, take}
 use native.Mathlib.Omega.{arith}
 use Rattle.rules.specs.Count.{count_of}
 use Rattle.rules.specs.Notice.{name_of}
-use Rattle.count.specs.State.{list_of}
 use Rattle.names.proofs.Starting.{started_fewer, name_few}
 use Rattle.sentences.specs.Pieces.{next_text}
-use Rattle.sentences.proofs.Listing.{count_at_lem, Measured, measured_none, measured_out, measured_in}
+use Rattle.sentences.proofs.Listing.{count_at_lem, measured_none, measured_out, measured_in}
 use Rattle.sentences.proofs.counts.counts_length.Goals as goal
 
 pub loop-i-preserved-then-is_out : goal.loop-i-preserved-then-is_out

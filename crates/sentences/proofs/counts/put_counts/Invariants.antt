@@ -1,13 +1,8 @@
-use Prim.Native.Nat.{suc, ◌-◌, ◌≤◌}
-use mathlib.Core.Path.{◌≡◌, sym, ◌∙◌}
+use Prim.Native.Nat.{◌-◌, ◌≤◌}
 use lib.ListN.{take}
-use native.Mathlib.Omega.{arith}
-use Rattle.rules.specs.Count.{count_of}
 use Rattle.rules.specs.Notice.{name_of}
 use Rattle.count.specs.State.{list_of}
-use Rattle.names.proofs.Starting.{started_fewer}
-use Rattle.sentences.specs.Pieces.{Put, next_text}
-use Rattle.sentences.proofs.Listing.{count_at_lem, Listing, listing_none, listing_out, listing_in, one_fits}
+use Rattle.sentences.proofs.Listing.{Listing}
 use Rattle.sentences.proofs.counts.put_counts.Given as goal
 
 abbrev pub invariant-loop-i : goal.invariant-loop-i

@@ -1,6 +1,5 @@
 use lib.ListN.{length-append}
 use native.Mathlib.Omega.{arith}
-use borrow.Author.Rules.{rules}
 use Rattle.rules.specs.Sentences.{bytes, count_text}
 use Rattle.sentences.proofs.Puts.{◌then◌}
 use Rattle.sentences.proofs.counts.put_next.Goals as goal

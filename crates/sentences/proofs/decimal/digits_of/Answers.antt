@@ -1,6 +1,6 @@
 use mathlib.Core.Path.{refl}
 use native.Mathlib.Omega.{arith}
-use Rattle.sentences.proofs.Numbers.{Going, going_none, more_places, going_on, going_ends}
+use Rattle.sentences.proofs.Numbers.{going_none, more_places, going_on, going_ends}
 use Rattle.sentences.proofs.decimal.digits_of.Goals as goal
 
 pub loop-rest-init : goal.loop-rest-init

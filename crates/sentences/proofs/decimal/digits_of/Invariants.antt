@@ -1,6 +1,4 @@
-use mathlib.Core.Path.{refl}
-use native.Mathlib.Omega.{arith}
-use Rattle.sentences.proofs.Numbers.{Going, going_none, more_places, going_on, going_ends}
+use Rattle.sentences.proofs.Numbers.{Going}
 use Rattle.sentences.proofs.decimal.digits_of.Given as goal
 
 abbrev pub invariant-loop-rest : goal.invariant-loop-rest

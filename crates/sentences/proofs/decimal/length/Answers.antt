@@ -1,5 +1,4 @@
 use native.Mathlib.Omega.{arith}
-use borrow.Author.Rules.{rules}
 use Rattle.sentences.proofs.Numbers.{digits_long}
 use Rattle.sentences.proofs.decimal.length.Goals as goal
 

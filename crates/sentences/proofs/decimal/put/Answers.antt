@@ -1,4 +1,3 @@
-use borrow.Author.Rules.{rules}
 use Rattle.sentences.proofs.Numbers.{digits_part}
 use Rattle.sentences.proofs.decimal.put.Goals as goal
 

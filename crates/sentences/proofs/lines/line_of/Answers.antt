@@ -1,6 +1,5 @@
 use Prim.Native.Nat.{ℕ, ◌-◌}
 use mathlib.Core.Path.{ap, ◌∙◌}
-use borrow.Author.Rules.{rules}
 use Rattle.sentences.proofs.Rounds.{is_last_lem, gone_before, counts_of_lem}
 use Rattle.sentences.proofs.lines.line_of.Goals as goal
 

@@ -1,5 +1,4 @@
 use native.Mathlib.Omega.{arith}
-use borrow.Author.Rules.{rules}
 use Rattle.sentences.proofs.Puts.{◌then◌}
 use Rattle.sentences.proofs.Rounds.{line_is, parts_long, name_started}
 use Rattle.sentences.proofs.lines.put_line.Goals as goal

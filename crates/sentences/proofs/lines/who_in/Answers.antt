@@ -1,5 +1,4 @@
 use mathlib.Core.Path.{◌∙◌}
-use borrow.Author.Rules.{rules}
 use Rattle.sentences.proofs.Rounds.{who_wins, who_leaves}
 use Rattle.sentences.proofs.lines.who_in.Goals as goal
 

@@ -1,5 +1,4 @@
 use native.Mathlib.Omega.{arith}
-use borrow.Author.Rules.{rules}
 use Rattle.rules.proofs.Lines.{count_long}
 use Rattle.sentences.proofs.parts.count_length.Goals as goal
 

@@ -2,7 +2,6 @@ use Prim.Native.Nat.{◌+◌}
 use mathlib.Core.Path.{◌≡◌}
 use lib.ListN.{length}
 use native.Mathlib.Omega.{arith}
-use borrow.Author.Rules.{rules}
 use Rattle.rules.specs.Sentences.{decimal}
 use Rattle.rules.proofs.Lines.{opening_long}
 use Rattle.sentences.proofs.parts.opening_length.Goals as goal

@@ -1,4 +1,3 @@
-use borrow.Author.Rules.{rules}
 use Rattle.sentences.proofs.Puts.{put_at}
 use Rattle.sentences.proofs.parts.put.Goals as goal
 

@@ -1,6 +1,5 @@
 use Prim.Native.Nat.{◌+◌}
 use native.Mathlib.Omega.{arith}
-use borrow.Author.Rules.{rules}
 use Rattle.rules.specs.Sentences.{bytes, decimal}
 use Rattle.sentences.specs.Pieces.{Put}
 use Rattle.rules.proofs.Lines.{opening_long}

@@ -1,4 +1,3 @@
-use borrow.Author.Rules.{rules}
 use Rattle.rules.specs.Sentences.{bytes}
 use Rattle.sentences.proofs.parts.put_verb.Goals as goal
 

@@ -1,4 +1,4 @@
-use Rattle.std.proofs.Common.{sym, ap, ◌∙◌, arith, length-take-le, rules}
+use Rattle.std.proofs.Common.{sym, ap, ◌∙◌, arith, length-take-le}
 use Rattle.sha256.specs.Message.{bytes}
 use Rattle.sha256.specs.Stream.{Stream, feed, digest_of}
 use Rattle.sha256.specs.Feed.{stream_of}

@@ -1,7 +1,7 @@
-use Rattle.std.proofs.Common.{◌≡◌, ◌+◌, ◌-◌, ◌%◌, ◌≤◌, length, take, drop, ◌∙◌, ⊎_elim, arith, length-drop, length-set, length-take-le, rules}
+use Rattle.std.proofs.Common.{◌≡◌, ◌+◌, ◌-◌, ◌%◌, ◌≤◌, length, take}
 use Rattle.sha256.specs.Stream.{feed}
 use Rattle.sha256.specs.Feed.{stream_of}
-use Rattle.sha256.proofs.Stream.{held, byte_waits, byte_fills, block_hashed, loop_starts, loop_ends}
+use Rattle.sha256.proofs.Stream.{held}
 use Rattle.sha256.proofs.Hasher.update.Given as goal
 
 abbrev pub invariant-loop-i : goal.invariant-loop-i

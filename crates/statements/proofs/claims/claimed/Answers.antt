@@ -1,6 +1,4 @@
-use Prim.Native.Nat.{◌-◌}
 use Rattle.statements.specs.Claims.{Within, claim_of}
-use borrow.Author.Rules.{rules}
 use Rattle.statements.proofs.claims.claimed.Goals as goal
 
 pub claimed_entry-requires : goal.claimed_entry-requires

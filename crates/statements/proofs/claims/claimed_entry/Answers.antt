@@ -1,7 +1,6 @@
 use mathlib.Core.Path.{refl, ◌∙◌}
 use Rattle.group.specs.Elements.{parameters_of}
 use Rattle.statements.proofs.PlainClaims.{said, entry_zero, entry_one}
-use borrow.Author.Rules.{rules}
 use Rattle.statements.proofs.claims.claimed_entry.Goals as goal
 
 pub returns-then-l-eq0 : goal.returns-then-l-eq0

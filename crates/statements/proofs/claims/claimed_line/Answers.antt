@@ -1,6 +1,5 @@
 use mathlib.Core.Path.{refl, ◌∙◌}
 use native.Mathlib.Omega.{arith}
-use borrow.Author.Rules.{rules}
 use Rattle.group.specs.Elements.{parameters_of}
 use Rattle.statements.proofs.PlainClaims.{said, line_said_lem}
 use Rattle.statements.proofs.claims.claimed_line.Goals as goal

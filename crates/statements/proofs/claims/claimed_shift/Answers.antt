@@ -2,7 +2,6 @@ use Prim.Native.Nat.{◌+◌, ◌*◌, ◌-◌, ◌≤◌, ◌<◌, ◌^◌}
 use mathlib.Core.Path.{◌∙◌}
 use native.Mathlib.Omega.{arith}
 use lib.ListN.{length}
-use borrow.Author.Rules.{rules}
 use Rattle.group.specs.Elements.{parameters_of}
 use Rattle.statements.proofs.PlainClaims.{said}
 use Rattle.statements.proofs.Lines.{row_below}

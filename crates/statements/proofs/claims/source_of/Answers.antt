@@ -1,5 +1,4 @@
 use Rattle.statements.proofs.ShiftClaims.{source_low, source_high}
-use borrow.Author.Rules.{rules}
 use Rattle.statements.proofs.claims.source_of.Goals as goal
 
 pub returns-then-row-l : goal.returns-then-row-l

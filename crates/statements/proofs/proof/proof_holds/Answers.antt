@@ -1,12 +1,9 @@
-use Prim.Native.Nat.{ℕ, ◌+◌, ◌*◌, ◌-◌, ◌%◌, ◌≤◌, ◌<◌, ◌^◌}
+use Prim.Native.Nat.{ℕ, ◌+◌, ◌*◌, ◌%◌, ◌≤◌, ◌<◌, ◌^◌}
 use mathlib.Core.Path.{◌≡◌, refl, sym, ◌∙◌, ap}
-use mathlib.Core.Logic.{⊎_elim}
 use mathlib.Core.Bool.{true, false, true≢false}
 use mathlib.Core.List.{List, ◌++◌}
 use native.Mathlib.Nat.{zero-mod}
 use native.Mathlib.Omega.{arith}
-use borrow.Author.Rules.{rules}
-use borrow.Author.Tests.{not-true, not-false}
 use lib.ListN.{length}
 use Rattle.numbers.specs.Below.{all_below, sum_below, concat_below}
 use Rattle.numbers.proofs.Tests.{all_none, all_more, all_end}
@@ -134,27 +131,27 @@ after c =
     let a = c.args in
     let o = c.branches in
     elim c.branches-test.branch [
-      else-branches-test w ↦
-        let e : o.l ≡ a.shape.branches = omega arith in (
-          λ _. record {
-            all = all_end _ _ _ o.invariant.0 w.branches-test.false o.invariant.2;
-            sum = rw (w.sum-is, ← e) o.invariant.3;
-            fed = λ m f. rw (w.h-is, ← e) (o.invariant.4 m f);
-          },
-          λ z. absurd (true≢false (sym o.invariant.1 ∙ sym w.ok-is ∙ z)),
-        )
-    | then-branches-test+then-loop-i-test+then-not-statement_holds w ↦
-        let shown = w.shown_at-shown.ensures in
-        let fails : here a.board.now a.g.group.p a.bases.first.0 a.bases.second.0 (claim_of a.board.now (parameters_of a.g.group) a.claim) a.shape.at
-            a.shape.statements o.l w.loop-i.i ≡ false =
-            sym (rw (← w.claimed-st.ensures, ← shown.0, ← shown.1, ← shown.2, ← w.as_exponent-e.ensures) w.statement_holds.ensures)
-            ∙ w.if-not-statement_holds.true in (
-          λ z. absurd (true≢false (sym z ∙ w.ok-is)),
-          λ _ label k. fails_there a.board.now label k a.g.group.p a.g.group.q a.bases.first.0 a.bases.second.0
-              (claim_of a.board.now (parameters_of a.g.group) a.claim)
-              a.shape.at a.shape.branches a.shape.statements o.l w.loop-i.i w.branches-test.true w.loop-i-test.true
-              fails,
-        )
+      | else-branches-test w ↦
+          let e : o.l ≡ a.shape.branches = omega arith in (
+            λ _. record {
+              all = all_end _ _ _ o.invariant.0 w.branches-test.false o.invariant.2;
+              sum = rw (w.sum-is, ← e) o.invariant.3;
+              fed = λ m f. rw (w.h-is, ← e) (o.invariant.4 m f);
+            },
+            λ z. absurd (true≢false (sym o.invariant.1 ∙ sym w.ok-is ∙ z)),
+          )
+      | then-branches-test+then-loop-i-test+then-not-statement_holds w ↦
+          let shown = w.shown_at-shown.ensures in
+          let fails : here a.board.now a.g.group.p a.bases.first.0 a.bases.second.0 (claim_of a.board.now (parameters_of a.g.group) a.claim) a.shape.at
+          a.shape.statements o.l w.loop-i.i ≡ false =
+          sym (rw (← w.claimed-st.ensures, ← shown.0, ← shown.1, ← shown.2, ← w.as_exponent-e.ensures) w.statement_holds.ensures)
+          ∙ w.if-not-statement_holds.true in (
+            λ z. absurd (true≢false (sym z ∙ w.ok-is)),
+            λ _ label k. fails_there a.board.now label k a.g.group.p a.g.group.q a.bases.first.0 a.bases.second.0
+                (claim_of a.board.now (parameters_of a.g.group) a.claim)
+                a.shape.at a.shape.branches a.shape.statements o.l w.loop-i.i w.branches-test.true w.loop-i-test.true
+                fails,
+          )
     ]
 
 pub returns : goal.returns

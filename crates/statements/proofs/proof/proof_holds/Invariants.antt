@@ -1,23 +1,12 @@
-use Prim.Native.Nat.{ℕ, ◌+◌, ◌*◌, ◌-◌, ◌%◌, ◌≤◌, ◌<◌, ◌^◌}
-use mathlib.Core.Path.{◌≡◌, refl, sym, ◌∙◌, ap}
-use mathlib.Core.Logic.{⊎_elim}
-use mathlib.Core.Bool.{true, false, true≢false}
+use Prim.Native.Nat.{ℕ, ◌-◌, ◌%◌, ◌≤◌}
+use mathlib.Core.Path.{◌≡◌}
+use mathlib.Core.Bool.{true}
 use mathlib.Core.List.{List, ◌++◌}
-use native.Mathlib.Nat.{zero-mod}
-use native.Mathlib.Omega.{arith}
-use borrow.Author.Rules.{rules}
-use borrow.Author.Tests.{not-true, not-false}
-use lib.ListN.{length}
 use Rattle.numbers.specs.Below.{all_below, sum_below, concat_below}
-use Rattle.numbers.proofs.Tests.{all_none, all_more, all_end}
 use Rattle.sha256.specs.Feed.{Fed}
-use Rattle.sha256.specs.Message.{sha256}
-use Rattle.sha256.proofs.Feed.{fed_more, fed_digest}
 use Rattle.group.specs.Elements.{parameters_of}
-use Rattle.rules.specs.Bytes.{number8}
-use Rattle.rules.specs.Proofs.{Context, context_bytes, proof_holds, branch_at, statement_at}
 use Rattle.statements.specs.Claims.{claim_of}
-use Rattle.statements.proofs.Branches.{here, branch_here, piece, pieces, challenges, within, branch_within, sum_more, fails_there, sums_up, fed_below_none, fed_below_more, fed_branch}
+use Rattle.statements.proofs.Branches.{here, branch_here, piece, pieces, challenges}
 use Rattle.statements.proofs.proof.proof_holds.Given as goal
 
 abbrev pub invariant-loop-i : goal.invariant-loop-i

@@ -1,13 +1,12 @@
-use Prim.Native.Nat.{◌+◌, ◌*◌, ◌-◌, ◌≤◌}
+use Prim.Native.Nat.{◌+◌, ◌*◌}
 use mathlib.Core.Path.{◌≡◌, sym, ◌∙◌}
 use mathlib.Core.Bool.{true}
 use native.Mathlib.Omega.{arith}
 use lib.Dec.{ltb}
-use borrow.Author.Rules.{rules}
 use Rattle.fields.proofs.Values.{exponent_value, exponent_refused}
 use Rattle.rules.specs.Bytes.{number4}
 use Rattle.statements.specs.Walks.{statement_fields}
-use Rattle.statements.proofs.Reading.{Walked, walked_none, walked_more, walked_bad, walked_end}
+use Rattle.statements.proofs.Reading.{walked_none, walked_more, walked_bad, walked_end}
 use Rattle.statements.proofs.walks.branch_fields.Goals.{In-Value}
 use Rattle.statements.proofs.walks.branch_fields.Goals as goal
 

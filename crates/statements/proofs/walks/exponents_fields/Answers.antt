@@ -1,10 +1,9 @@
-use Prim.Native.Nat.{◌+◌, ◌*◌, ◌-◌, ◌≤◌}
+use Prim.Native.Nat.{◌+◌, ◌*◌}
 use mathlib.Core.Path.{sym, ◌∙◌}
 use native.Mathlib.Omega.{arith}
 use lib.Dec.{ltb}
-use borrow.Author.Rules.{rules}
 use Rattle.rules.specs.Bytes.{number4}
-use Rattle.statements.proofs.Reading.{exponent_to, exponent_bad, Walked, walked_none, walked_more, walked_bad, walked_end}
+use Rattle.statements.proofs.Reading.{exponent_to, exponent_bad, walked_none, walked_more, walked_bad, walked_end}
 use Rattle.statements.proofs.walks.exponents_fields.Goals as goal
 
 pub returns-in_default : goal.returns-in_default

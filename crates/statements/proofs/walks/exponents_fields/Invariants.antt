@@ -1,10 +1,7 @@
 use Prim.Native.Nat.{◌+◌, ◌*◌, ◌-◌, ◌≤◌}
-use mathlib.Core.Path.{sym, ◌∙◌}
-use native.Mathlib.Omega.{arith}
 use lib.Dec.{ltb}
-use borrow.Author.Rules.{rules}
 use Rattle.rules.specs.Bytes.{number4}
-use Rattle.statements.proofs.Reading.{exponent_to, exponent_bad, Walked, walked_none, walked_more, walked_bad, walked_end}
+use Rattle.statements.proofs.Reading.{Walked}
 use Rattle.statements.proofs.walks.exponents_fields.Given as goal
 
 abbrev pub invariant-loop-i : goal.invariant-loop-i

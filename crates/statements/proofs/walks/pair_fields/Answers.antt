@@ -1,6 +1,5 @@
 use mathlib.Core.Path.{◌≡◌, sym, ◌∙◌}
 use native.Mathlib.Omega.{arith}
-use borrow.Author.Rules.{rules}
 use Rattle.fields.specs.Answers.{element_at}
 use Rattle.fields.specs.declared.ElementField.TheVariants.{Value}
 use Rattle.fields.proofs.Values.{element_value}

@@ -1,9 +1,8 @@
-use Prim.Native.Nat.{◌+◌, ◌*◌, ◌-◌, ◌≤◌}
+use Prim.Native.Nat.{◌+◌, ◌*◌}
 use mathlib.Core.Path.{sym, ◌∙◌}
 use native.Mathlib.Omega.{arith}
-use borrow.Author.Rules.{rules}
 use Rattle.statements.specs.Walks.{pair_fields}
-use Rattle.statements.proofs.Reading.{Walked, walked_none, walked_more, walked_bad, walked_end}
+use Rattle.statements.proofs.Reading.{walked_none, walked_more, walked_bad, walked_end}
 use Rattle.statements.proofs.walks.pairs_fields.Goals as goal
 
 pub returns-in_default : goal.returns-in_default

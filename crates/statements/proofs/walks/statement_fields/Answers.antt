@@ -1,7 +1,6 @@
 use Prim.Native.Nat.{◌+◌}
 use mathlib.Core.Path.{◌≡◌, sym, ◌∙◌}
 use native.Mathlib.Omega.{arith}
-use borrow.Author.Rules.{rules}
 use Rattle.statements.specs.Walks.{walk_if, pair_fields}
 use Rattle.statements.specs.declared.walks.Walk.TheVariants.{To}
 use Rattle.statements.proofs.Reading.{walk_to, commitments_bad, response_bad, response_good}

@@ -1,11 +1,8 @@
-use Prim.Native.Nat.{◌-◌, ◌≤◌}
+use Prim.Native.Nat.{◌-◌}
 use mathlib.Core.Path.{◌≡◌, sym, subst, ◌∙◌}
-use mathlib.Core.Bool.{true}
 use native.Mathlib.Omega.{arith}
-use Rattle.jobs.specs.Write.{different}
 use Rattle.jobs.proofs.Repeats.{different_none, different_more, different_fails}
-use Rattle.validity.proofs.Chains.{Chained, Searched, chained_none, chained_more, search_starts, search_goes_on, search_ends}
-use borrow.Author.Rules.{rules}
+use Rattle.validity.proofs.Chains.{Searched, chained_none, chained_more, search_starts, search_goes_on, search_ends}
 use Rattle.validity.proofs.repeats.all_different.Goals as goal
 
 pub loop-j-init : goal.loop-j-init

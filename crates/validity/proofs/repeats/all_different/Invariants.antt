@@ -1,11 +1,8 @@
 use Prim.Native.Nat.{◌-◌, ◌≤◌}
-use mathlib.Core.Path.{◌≡◌, sym, subst, ◌∙◌}
+use mathlib.Core.Path.{◌≡◌}
 use mathlib.Core.Bool.{true}
-use native.Mathlib.Omega.{arith}
 use Rattle.jobs.specs.Write.{different}
-use Rattle.jobs.proofs.Repeats.{different_none, different_more, different_fails}
-use Rattle.validity.proofs.Chains.{Chained, Searched, chained_none, chained_more, search_starts, search_goes_on, search_ends}
-use borrow.Author.Rules.{rules}
+use Rattle.validity.proofs.Chains.{Chained, Searched}
 use Rattle.validity.proofs.repeats.all_different.Given as goal
 
 abbrev pub invariant-loop-h : goal.invariant-loop-h

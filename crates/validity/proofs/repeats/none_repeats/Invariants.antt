@@ -1,17 +1,11 @@
 use Prim.Native.Nat.{ℕ, ◌-◌, ◌≤◌}
-use mathlib.Core.Path.{◌≡◌, refl, sym, ◌∙◌}
+use mathlib.Core.Path.{◌≡◌}
 use mathlib.Core.Bool.{true}
 use mathlib.Core.List.{List}
-use native.Mathlib.Omega.{arith}
 use lib.ListN.{get_or}
-use borrow.Author.Tests.{not-true, not-false}
 use Rattle.numbers.specs.Below.{all_below}
-use Rattle.numbers.proofs.Tests.{all_none, all_more, all_end}
-use Rattle.jobs.specs.Job.{record_draws, record_secrets, round_draws, draws_at}
-use Rattle.jobs.specs.Write.{different}
-use Rattle.jobs.proofs.Draws.{secrets_within, draws_start, draws_step, draws_end, draws_among}
-use Rattle.validity.proofs.Walk.{record_good, round_good, repeats}
-use borrow.Author.Rules.{rules}
+use Rattle.jobs.specs.Job.{round_draws, draws_at}
+use Rattle.validity.proofs.Walk.{record_good, round_good}
 use Rattle.validity.proofs.repeats.none_repeats.Given as goal
 
 abbrev pub kind_at : (kinds : List ℕ) (i : ℕ) → ℕ

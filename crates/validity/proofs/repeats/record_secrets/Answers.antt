@@ -2,7 +2,6 @@ use Prim.Native.Nat.{◌*◌, ◌-◌, ◌≤◌}
 use native.Mathlib.Omega.{arith}
 use Rattle.rules.proofs.Sizes.{few_pairs}
 use Rattle.validity.proofs.Walk.{few_secrets}
-use borrow.Author.Rules.{rules}
 use Rattle.validity.proofs.repeats.record_secrets.Goals.{After-records_of}
 use Rattle.validity.proofs.repeats.record_secrets.Goals as goal
 

@@ -1,7 +1,6 @@
 use Prim.Native.Nat.{ℕ, ◌%◌, ◌<◌}
 use mathlib.Core.Path.{◌≡◌, refl, ap}
 use lib.ListN.{replicate, get_or-replicate}
-use borrow.Author.Rules.{rules}
 use Rattle.group.specs.declared.Element.{Element}
 use Rattle.sheets.specs.Tallies.{element_of}
 use Rattle.sheets.proofs.tally.Tally.none.Goals as goal

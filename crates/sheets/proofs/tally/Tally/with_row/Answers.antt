@@ -1,9 +1,6 @@
-use Prim.Native.Nat.{◌+◌, ◌*◌, ◌-◌, ◌≤◌}
 use mathlib.Core.Path.{◌≡◌, refl}
 use native.Mathlib.Omega.{arith}
-use borrow.Author.Rules.{rules}
-use Rattle.rules.specs.Bytes.{number4}
-use Rattle.sheets.proofs.Products.{Rowed, rowed_none, rowed_more, with_row_lem}
+use Rattle.sheets.proofs.Products.{rowed_none, rowed_more, with_row_lem}
 use Rattle.sheets.proofs.tally.Tally.with_row.Goals as goal
 
 pub loop-i-init : goal.loop-i-init

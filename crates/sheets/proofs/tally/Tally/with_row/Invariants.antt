@@ -1,9 +1,6 @@
 use Prim.Native.Nat.{◌+◌, ◌*◌, ◌-◌, ◌≤◌}
-use mathlib.Core.Path.{◌≡◌, refl}
-use native.Mathlib.Omega.{arith}
-use borrow.Author.Rules.{rules}
 use Rattle.rules.specs.Bytes.{number4}
-use Rattle.sheets.proofs.Products.{Rowed, rowed_none, rowed_more, with_row_lem}
+use Rattle.sheets.proofs.Products.{Rowed}
 use Rattle.sheets.proofs.tally.Tally.with_row.Given as goal
 
 abbrev pub invariant-loop-i : goal.invariant-loop-i
