@@ -1,7 +1,7 @@
 #!/usr/bin/env python3
 """Brings the repository's own names in specs/, proofs/, clauses and edits to today's spelling: words in snake case.
 
-usage: tools/respell.py        once, at the top, right after /opt/rattle/port/port.py
+usage: tools/respell.py        once, at the top, right after the kit's port/port.py
 
 A name that a file of specs/ or proofs/ declares or binds goes from camelCase and dashes to snake case: sumBelow, minus-zero -> sum_below, minus_zero.
 Types, modules, names of the library and the names that the toolchain makes stay. The code's names, strings and comments' prose stay.
