@@ -1,4 +1,3 @@
-use borrow.Author.Rules.{rules}
 use Rattle.demand.proofs.Answers.{of_check, accepted_is_plain, audited_as_shown}
 use Rattle.demand.proofs.check.Goals as goal
 

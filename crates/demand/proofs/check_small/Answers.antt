@@ -1,4 +1,3 @@
-use borrow.Author.Rules.{rules}
 use Rattle.demand.proofs.Answers.{of_small, as_for_the_box, accepted_is_plain, audited_as_shown}
 use Rattle.demand.proofs.check_small.Goals as goal
 

@@ -1,4 +1,3 @@
-use borrow.Author.Rules.{rules}
 use Rattle.demand.proofs.Answers.{valid_is_written}
 use Rattle.demand.proofs.write.Goals as goal
 

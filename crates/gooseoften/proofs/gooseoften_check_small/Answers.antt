@@ -1,5 +1,4 @@
 use native.Mathlib.Omega.{arith}
-use borrow.Author.Rules.{rules}
 use Rattle.sha256.specs.Message.{sha256}
 use Rattle.rules.specs.Check.{check_small}
 use Rattle.gooseoften.proofs.Codes.{small_placed}

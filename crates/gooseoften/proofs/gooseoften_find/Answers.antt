@@ -1,6 +1,5 @@
 use mathlib.Core.Path.{ap, ◌∙◌}
 use lib.ListN.{length}
-use borrow.Author.Rules.{rules}
 use Rattle.gooseoften.specs.Answers.{find_code}
 use Rattle.gooseoften.proofs.Codes.{found_placed}
 use Rattle.gooseoften.proofs.gooseoften_find.Goals as goal

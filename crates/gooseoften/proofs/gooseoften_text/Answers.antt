@@ -1,6 +1,5 @@
 use native.Mathlib.Omega.{arith}
 use lib.ListN.{length}
-use borrow.Author.Rules.{rules}
 use Rattle.gooseoften.proofs.Codes.{told_placed}
 use Rattle.gooseoften.proofs.Calls.{told}
 use Rattle.gooseoften.proofs.gooseoften_text.Goals as goal

@@ -1,6 +1,5 @@
 use native.Mathlib.Omega.{arith}
 use lib.ListN.{length}
-use borrow.Author.Rules.{rules}
 use Rattle.jobs.specs.Job.{Job}
 use Rattle.gooseoften.specs.Answers.{job}
 use Rattle.gooseoften.proofs.Codes.{which_placed}

@@ -3,7 +3,6 @@ use mathlib.Core.Bool.{true}
 use lib.ListN.{length}
 use native.Mathlib.Omega.{arith}
 use borrow.Author.Tests.{not-true, not-false}
-use borrow.Author.Rules.{rules}
 use Rattle.rules.specs.Notice.{names_good}
 use Rattle.count.specs.State.{result_of}
 use Rattle.sentences.specs.Lines.{Ready}

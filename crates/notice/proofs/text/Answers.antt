@@ -1,6 +1,5 @@
 use mathlib.Core.Path.{ap, ◌∙◌}
 use lib.ListN.{length}
-use borrow.Author.Rules.{rules}
 use Rattle.rules.specs.Notice.{Telling, output_after}
 use Rattle.notice.proofs.Telling.{unchanged}
 use Rattle.notice.proofs.Boards.{refused_alike, ends, tells, finished}

@@ -2,7 +2,6 @@ use Prim.Native.Nat.{ℕ, ◌+◌}
 use mathlib.Core.Path.{◌≡◌, refl, sym, ap, subst, ◌∙◌}
 use mathlib.Core.List.{List}
 use native.Mathlib.Omega.{arith}
-use borrow.Author.Tests.{not-true, not-false}
 use Rattle.sha256.specs.Message.{sha256}
 use Rattle.group.specs.Elements.{parameters_of}
 use Rattle.jobs.specs.Job as J
@@ -16,7 +15,6 @@ use Rattle.validity.proofs.Tests.{group_positive}
 use Rattle.writer.specs.Steps.{Measured, Puts}
 use Rattle.writer.proofs.Outcomes.{measurable, measured, measured_rounds, draws_are, enough, repeats_are, stops_draws, stops_repeat, stops_room, refuses}
 use Rattle.writer.proofs.Boards.{bytes_for, can, sheeted, room, writes}
-use borrow.Author.Rules.{rules}
 use Rattle.writer.proofs.write.Goals.{After-draws_good, After-measure_of-m, After-new-setup, After-none_repeats-different, After-put_board-put, After-up_to_kinds-tested, Else-not-draws_good, In-Sound}
 use Rattle.writer.proofs.write.Goals as goal
 

@@ -1,6 +1,5 @@
 use native.Mathlib.Omega.{arith}
 use Rattle.rules.proofs.RefusalNumbers.{number_most}
-use borrow.Author.Rules.{rules}
 use Rattle.gooseoften.proofs.answers.code.Goals as goal
 
 pub overflow_add-result : goal.overflow_add-result

@@ -1,4 +1,3 @@
-use borrow.Author.Rules.{rules}
 use Rattle.gooseoften.proofs.answers.found_code.Goals as goal
 
 pub code-requires : goal.code-requires

@@ -1,6 +1,5 @@
 use mathlib.Core.List.{[], ◌∷◌}
 use Rattle.output.proofs.Laws.{front}
-use borrow.Author.Rules.{rules}
 use Rattle.gooseoften.proofs.answers.put_one.Goals as goal
 
 pub returns : goal.returns

@@ -1,7 +1,5 @@
-use Prim.Native.Nat.{◌-◌}
 use native.Mathlib.Omega.{arith}
-use borrow.Author.Rules.{rules}
-use Rattle.output.proofs.Laws.{Copied, copied_none, copied_more, copied_all}
+use Rattle.output.proofs.Laws.{copied_none, copied_more, copied_all}
 use Rattle.gooseoften.proofs.answers.put_order.Goals as goal
 
 pub loop-i-preserved : goal.loop-i-preserved

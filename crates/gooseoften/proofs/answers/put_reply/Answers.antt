@@ -1,6 +1,5 @@
 use native.Mathlib.Omega.{arith}
 use Rattle.output.proofs.Laws.{more}
-use borrow.Author.Rules.{rules}
 use Rattle.gooseoften.proofs.answers.put_reply.Goals as goal
 
 pub code-requires : goal.code-requires

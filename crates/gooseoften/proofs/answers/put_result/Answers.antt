@@ -1,6 +1,5 @@
 use mathlib.Core.Path.{refl}
 use Rattle.output.proofs.Laws.{more}
-use borrow.Author.Rules.{rules}
 use Rattle.gooseoften.proofs.answers.put_result.Goals as goal
 
 pub returns : goal.returns

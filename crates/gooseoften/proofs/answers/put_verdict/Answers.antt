@@ -1,5 +1,4 @@
 use native.Mathlib.Omega.{arith}
-use borrow.Author.Rules.{rules}
 use Rattle.gooseoften.proofs.answers.put_verdict.Goals as goal
 
 pub code-requires : goal.code-requires
