@@ -91,7 +91,8 @@ pub fn enter(digests: &[u8], d: &[u8], number: u16, numbers: &mut [u16])
         if !not_above(digest_at(digests, i), d) {
             return;
         }
-        if numbers[i] == 0 {
+        let fresh = numbers[i] == 0;
+        if fresh {
             numbers[i] = number;
         }
         i += 1;

@@ -30,7 +30,8 @@ pub fn tally(rankings: &[u8], kinds: &[u8], n: usize, k: usize, gone: Gone) -> S
 {
     let mut counts = [0u32; 8];
     for b in 0..k {
-        if numbers::wide(kinds[b]) == layout::COUNTED {
+        let counted = numbers::wide(kinds[b]) == layout::COUNTED;
+        if counted {
             let at = b * n;
             let next = voted(counts, rankings::first_in(rankings, at, n, gone));
             counts = next;

@@ -2,7 +2,7 @@ use mathlib.Core.Path.{◌≡◌, sym, ◌∙◌}
 use native.Mathlib.Omega.{arith}
 use Rattle.rules.specs.Receipts.{digest_at, not_above}
 use Rattle.digests.proofs.Entering.{entering_start, entering_end, entering_stop, entering_new, entering_old}
-use Rattle.digests.proofs.enter.Goals.{After-not_above, else-numbers-i-eq0, then-numbers-i-eq0}
+use Rattle.digests.proofs.enter.Goals.{After-not_above, else-fresh, then-fresh}
 use Rattle.digests.proofs.enter.Goals as goal
 
 pub loop-i-init : goal.loop-i-init
@@ -18,9 +18,9 @@ pub loop-i-preserved : goal.loop-i-preserved
 loop-i-preserved c =
     let w = c.loop-i.invariant in
     let k = sym (told (goal.at.loop-i-preserved c).After-not_above) ∙ c.if-not-not_above.false in
-    (elim c.if-numbers-i-eq0.branch [
-      | then-numbers-i-eq0 a ↦ rw a.numbers-is (entering_new _ _ _ _ w (omega arith) k (omega (arith, a.if-numbers-i-eq0.true)))
-      | else-numbers-i-eq0 a ↦ rw a.numbers-is (entering_old _ _ _ _ w (omega arith) k (λ z. omega (arith, a.if-numbers-i-eq0.false)))
+    (elim c.if-fresh.branch [
+      | then-fresh a ↦ rw a.numbers-is (entering_new _ _ _ _ w (omega arith) k (omega (arith, a.if-fresh.true)))
+      | else-fresh a ↦ rw a.numbers-is (entering_old _ _ _ _ w (omega arith) k (λ z. omega (arith, a.if-fresh.false)))
     ])
 
 pub returns : goal.returns
@@ -35,8 +35,8 @@ shape_of-numbers-then-not-not_above c = c.loop-i.invariant.long ∙ sym c.requir
 pub bounds-numbers-i : goal.bounds-numbers-i
 bounds-numbers-i c = omega (arith, c.loop-i.invariant.long)
 
-pub bounds-numbers-i-then-numbers-i-eq0 : goal.bounds-numbers-i-then-numbers-i-eq0
-bounds-numbers-i-then-numbers-i-eq0 c = omega (arith, c.loop-i.invariant.long)
+pub bounds-numbers-i-then-fresh : goal.bounds-numbers-i-then-fresh
+bounds-numbers-i-then-fresh c = omega (arith, c.loop-i.invariant.long)
 
 pub shape_of-numbers : goal.shape_of-numbers
 shape_of-numbers c = c.loop-i.invariant.long ∙ sym c.requires.1

@@ -59,7 +59,8 @@ generated c = c.generators_good.ensures
 pub returns-then-not-ordered : goal.returns-then-not-ordered
 unfolding HeaderReads
 returns-then-not-ordered c =
-    wrong_orders (read (goal.at.returns-then-not-ordered c).After-shown-group) (sized (goal.at.returns-then-not-ordered c).Else-not-sizes_good) (few (goal.at.returns-then-not-ordered c).Else-not-few)
+    let within : c.limits_good-few.result ≡ true = cc in
+    wrong_orders (read (goal.at.returns-then-not-ordered c).After-shown-group) (sized (goal.at.returns-then-not-ordered c).Else-not-sizes_good) (sym c.limits_good-few.ensures ∙ within)
     (sym c.orders_good-ordered.ensures ∙ c.if-not-ordered.true)
 
 pub returns-then-not-generators_good : goal.returns-then-not-generators_good

@@ -1,4 +1,5 @@
-use mathlib.Core.Path.{sym, ◌∙◌}
+use mathlib.Core.Path.{◌≡◌, sym, ◌∙◌}
+use mathlib.Core.Bool.{true}
 use lib.ListN.{length}
 use borrow.Author.Rules.{rules}
 use Rattle.rules.proofs.Digests.{few_digests, rising}
@@ -12,7 +13,8 @@ returns-then-not-good c =
 
 pub returns-then-not-fits : goal.returns-then-not-fits
 returns-then-not-fits c =
-    let w = refuses _ _ _ _ (list_short _ _ _ (sym c.digests_good-good.ensures ∙ c.if-not-good.false) c.if-not-fits.true) in
+    let good : c.digests_good-good.result ≡ true = cc in
+    let w = refuses _ _ _ _ (list_short _ _ _ (sym c.digests_good-good.ensures ∙ good) c.if-not-fits.true) in
     record { found_after = w.0; found_after_2 = w.1 }
 
 pub find_on_board-requires : goal.find_on_board-requires

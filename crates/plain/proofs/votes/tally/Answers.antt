@@ -12,7 +12,7 @@ use Rattle.rules.specs.Records.{is_counted}
 use Rattle.count.specs.State.{list_of}
 use Rattle.plain.proofs.Lists.{get_or_zeros as zeros}
 use Rattle.plain.proofs.Firsts.{one, votes_more, votes_passed, votes_none, counts_are}
-use Rattle.plain.proofs.votes.tally.Goals.{else-wide-eq-COUNTED, then-wide-eq-COUNTED}
+use Rattle.plain.proofs.votes.tally.Goals.{else-counted, then-counted}
 use Rattle.plain.proofs.votes.tally.Goals as goal
 
 pub loop-b-init : goal.loop-b-init
@@ -25,15 +25,15 @@ loop-b-preserved c =
     let gone = list_of f.gone in
     let p : ℕ → Bool = λ d. is_counted (get_or f.kinds.now d 0) in
     let r : ℕ → List ℕ = λ d. part f.rankings.now (d * f.n) f.n in
-    (elim c.if-wide-eq-COUNTED.branch [
-      | then-wide-eq-COUNTED w ↦ let e = eq-eqb (get_or f.kinds.now l.b 0) 0 (sym c.wide.ensures ∙ w.if-wide-eq-COUNTED.true) in
+    (elim c.if-counted.branch [
+      | then-counted w ↦ let e = eq-eqb (get_or f.kinds.now l.b 0) 0 (sym c.wide-counted.ensures ∙ w.if-counted.true) in
           let v = w.voted-next.ensures in (
             omega arith,
             rw w.counts-is v.0,
             λ i h. rw (w.counts-is, v.1 i h) (omega (arith, l.invariant.2 i h, one (eqb w.first_in.result (suc i)))),
             λ i h. rw w.counts-is (v.1 i h ∙ rw (l.invariant.3 i h, w.first_in.ensures) (sym (votes_more f.n gone p r l.b (suc i) e))),
           )
-      | else-wide-eq-COUNTED w ↦ let e = ne_eqb (get_or f.kinds.now l.b 0) 0 (λ z. w.if-wide-eq-COUNTED.false (c.wide.ensures ∙ z)) in (
+      | else-counted w ↦ let e = ne_eqb (get_or f.kinds.now l.b 0) 0 (λ z. w.if-counted.false (c.wide-counted.ensures ∙ z)) in (
         omega arith,
         rw w.counts-is l.invariant.1,
         λ i h. rw w.counts-is (omega (arith, l.invariant.2 i h)),

@@ -1,7 +1,7 @@
 use Rattle.std.proofs.Common.{◌≡◌, length, drop, ◌∙◌, arith, length-drop, length-set, length-take-le, rules}
 use Rattle.sha256.specs.Feed.{stream_of}
 use Rattle.sha256.proofs.Stream.{byte_waits, byte_fills, block_hashed, loop_starts, loop_ends}
-use Rattle.sha256.proofs.Hasher.update.Goals.{else-filled-eq64, then-filled-eq64}
+use Rattle.sha256.proofs.Hasher.update.Goals.{else-full, then-full}
 use Rattle.sha256.proofs.Hasher.update.Goals as goal
 
 pub loop-i-init : goal.loop-i-init
@@ -31,14 +31,14 @@ loop-i-preserved c =
     let a = c.args in
     let p = a.piece.now in (
       omega arith,
-      (elim c.if-filled-eq64.branch [
-        | then-filled-eq64 w ↦ omega (arith, l.invariant.1)
-        | else-filled-eq64 w ↦ omega (arith, l.invariant.1)
+      (elim c.if-full.branch [
+        | then-full w ↦ omega (arith, l.invariant.1)
+        | else-full w ↦ omega (arith, l.invariant.1)
       ]),
       simp length-set l.invariant.2,
-      (elim c.if-filled-eq64.branch [
-        | then-filled-eq64 w ↦ byte_fills (stream_of a.self) l.state l.block p l.filled l.i a.self.total l.invariant.2 l.invariant.3 _ _ (w.state-is ∙ w.compress-next-then-filled-eq64.ensures) w.filled-is (omega arith) (omega arith)
-        | else-filled-eq64 w ↦ byte_waits (stream_of a.self) l.state l.block p l.filled l.i a.self.total l.invariant.2 l.invariant.3 _ _ w.state-is w.filled-is (omega (arith, l.invariant.1)) (omega arith)
+      (elim c.if-full.branch [
+        | then-full w ↦ byte_fills (stream_of a.self) l.state l.block p l.filled l.i a.self.total l.invariant.2 l.invariant.3 _ _ (w.state-is ∙ w.compress-next-then-full.ensures) w.filled-is (omega arith) (omega arith)
+        | else-full w ↦ byte_waits (stream_of a.self) l.state l.block p l.filled l.i a.self.total l.invariant.2 l.invariant.3 _ _ w.state-is w.filled-is (omega (arith, l.invariant.1)) (omega arith)
       ]),
     )
 
