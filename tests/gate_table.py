@@ -1,10 +1,12 @@
 #!/usr/bin/env python3
-"""gate_table.py - the seconds of each crate in a log of the gate, as docs/GATE.md's table.
+"""gate_table.py - what the gate did with each crate, by its log, as docs/GATE.md's table.
 
-  python3 tests/gate_table.py LOG [--write]
+  python3 tests/gate_table.py LOG.. [--write]
 
-Prints the table: a row a crate of crates.txt, its proof and its must-fail edits.  With --write it
-puts the table into docs/GATE.md.  Ends with 1 where the log lacks the proof of a crate.
+Prints the table: a row a crate of crates.txt, how many functions were proved and how many must-fail
+edits were refused.  A run that kept a crate from an earlier one says nothing of it, so more logs
+than one may be needed.  With --write it puts the table into docs/GATE.md.  Ends with 1 where the
+logs lack the proof of a crate, or an edit was not refused.
 """
 import re
 import sys
@@ -12,33 +14,27 @@ import sys
 from map import crates
 from stored import content, path
 
-PROOF = re.compile(r'^rt: (\w+) proved \((\d+) s\)', re.M)
-EDIT = re.compile(r'^rt: must-fail (\w+)/\w+: .*?(\d+) s\)', re.M)
+PROOF = re.compile(r'^== (\w+)\n(?:(?!^== ).*\n)*?logic=proved functions=(\d+)', re.M)
+EDIT = re.compile(r'^rt: must-fail (\w+)/(\w+)\.edit: (\w+)', re.M)
 TABLE = re.compile(r'(?<=\|---\|---\|---\|\n)(\|.*\n)+')
 
 
-def edits_cell(seconds):
-    if not seconds:
-        return ''
-    least, most = min(seconds), max(seconds)
-    each = '%d' % least if least == most else '%d to %d' % (least, most)
-    return 'one edit, %s' % each if len(seconds) == 1 else '%d edits, %s each' % (len(seconds), each)
-
-
 def table(log):
-    proofs = {crate: int(seconds) for crate, seconds in PROOF.findall(log)}
-    edits = {crate: [] for crate in proofs}
-    for crate, seconds in EDIT.findall(log):
-        edits[crate].append(int(seconds))
-    return ''.join('| `%s` | %d | %s |\n' % (crate, proofs[crate], edits_cell(edits[crate])) for crate in crates())
+    proofs = dict(PROOF.findall(log))
+    edits = {crate: set() for crate in crates()}
+    for crate, edit, outcome in EDIT.findall(log):
+        assert outcome == 'refused', '%s/%s was not refused' % (crate, edit)
+        edits[crate].add(edit)
+    return ''.join('| `%s` | %s | %s |\n' % (crate, proofs[crate], len(edits[crate]) or '')
+                   for crate in crates())
 
 
 def main(arguments):
-    log = open(arguments[0], encoding='utf-8').read()
+    logs = [open(name, encoding='utf-8').read() for name in arguments if name != '--write']
     try:
-        rows = table(log)
+        rows = table(''.join(logs))
     except KeyError as crate:
-        print('the log has no proof of %s' % crate)
+        print('the logs have no proof of %s' % crate)
         return 1
     print(rows, end='')
     if '--write' in arguments:
