@@ -92,7 +92,8 @@ pub fn ballot_frame(board: &[u8], at: usize, n: usize, due: usize) -> Fault
     if let Fault::Refused(why) = framed {
         return Fault::Refused(why);
     }
-    if layout::AUDITED < kind {
+    let unknown = layout::AUDITED < kind;
+    if unknown {
         return Fault::Refused(Refusal::Kind);
     }
     Fault::Sound

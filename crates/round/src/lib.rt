@@ -131,7 +131,8 @@ fn read_later(board: &[u8], at: usize, h: Head, round: Round, walk: Walk) -> Pas
     ensures { RecordPasses board.now h round.a round.m walk.k at result }
 {
     let m = round.m;
-    if frames::kind(board, walk.ballot) != layout::COUNTED {
+    let audited = frames::kind(board, walk.ballot) != layout::COUNTED;
+    if audited {
         return Passed::To(at);
     }
     let before = layout::pairs_from(m - 1, walk.before);

@@ -22,8 +22,8 @@ sound c =
 pub returns-in-Refused : goal.returns-in-Refused
 returns-in-Refused c = ballot_framed _ _ _ _ _ (rw c.in-Refused.is at (numbered (goal.at.returns-in-Refused c).After-numbered-framed))
 
-pub returns-then-kind-gt-AUDITED : goal.returns-then-kind-gt-AUDITED
-returns-then-kind-gt-AUDITED c = ballot_kind _ _ _ _ (sound (goal.at.returns-then-kind-gt-AUDITED c).In_default) (omega (arith, c.kind-kind.ensures))
+pub returns-then-unknown : goal.returns-then-unknown
+returns-then-unknown c = ballot_kind _ _ _ _ (sound (goal.at.returns-then-unknown c).In_default) (omega (arith, c.kind-kind.ensures))
 
 pub returns : goal.returns
 returns c = ballot_sound _ _ _ _ (sound (goal.at.returns c).In_default) (omega (arith, c.kind-kind.ensures))

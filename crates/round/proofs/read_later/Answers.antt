@@ -8,21 +8,21 @@ use Rattle.rules.specs.Check.{kind}
 use Rattle.header.specs.Heads.{head_of}
 use Rattle.round.proofs.RecordAt.{later_none, later_shift}
 use Rattle.round.proofs.Walked.{kind_read, earlier_pairs, earlier_small}
-use Rattle.round.proofs.read_later.Goals.{After-kind, Else-kind-ne-COUNTED}
+use Rattle.round.proofs.read_later.Goals.{After-kind-audited, Else-audited}
 use Rattle.round.proofs.read_later.Goals as goal
 
 -- the kind that was read
-kind_of_lem : (c : goal.After-kind) → let a = c.args in c.kind.result ≡ kind a.board.now (head_of a.board.now a.h) a.walk.k
-kind_of_lem c = kind_read c.args.board.now c.args.h c.requires.0 c.args.round c.args.at c.args.walk c.requires.1 _ c.kind.ensures
+kind_of_lem : (c : goal.After-kind-audited) → let a = c.args in c.kind-audited.result ≡ kind a.board.now (head_of a.board.now a.h) a.walk.k
+kind_of_lem c = kind_read c.args.board.now c.args.h c.requires.0 c.args.round c.args.at c.args.walk c.requires.1 _ c.kind-audited.ensures
 
 -- the ballot is counted, and there is a round before
-counted : (c : goal.Else-kind-ne-COUNTED) → let a = c.args in is_counted (kind a.board.now (head_of a.board.now a.h) a.walk.k) ≡ true
+counted : (c : goal.Else-audited) → let a = c.args in is_counted (kind a.board.now (head_of a.board.now a.h) a.walk.k) ≡ true
 counted c =
-    let kind_of_lem : (let a = c.args in c.kind.result ≡ kind a.board.now (head_of a.board.now a.h) a.walk.k) = kind_read c.args.board.now c.args.h c.requires.0 c.args.round c.args.at c.args.walk c.requires.1 _ c.kind.ensures in
+    let kind_of_lem : (let a = c.args in c.kind-audited.result ≡ kind a.board.now (head_of a.board.now a.h) a.walk.k) = kind_read c.args.board.now c.args.h c.requires.0 c.args.round c.args.at c.args.walk c.requires.1 _ c.kind-audited.ensures in
     let a = c.args in
     eq-eqb (kind a.board.now (head_of a.board.now a.h) a.walk.k) 0 (omega (arith, kind_of_lem))
 
-round : (c : goal.Else-kind-ne-COUNTED) → let m = c.args.round.m in m ≡ suc (m - 1)
+round : (c : goal.Else-audited) → let m = c.args.round.m in m ≡ suc (m - 1)
 round c = omega (arith, c.requires.3.further)
 
 pub pairs_from-before-requires : goal.pairs_from-before-requires
@@ -31,23 +31,23 @@ pairs_from-before-requires c = omega (arith, earlier_small c.args.board.now c.ar
 pub read_shift-requires : goal.read_shift-requires
 read_shift-requires c =
     let l = c.requires.3 in
-    let rows : c.args.h.n - c.args.round.m + 1 ≡ c.args.h.n - (c.args.round.m - 1) = omega (arith, l.early, round (goal.at.read_shift-requires c).Else-kind-ne-COUNTED) in record {
+    let rows : c.args.h.n - c.args.round.m + 1 ≡ c.args.h.n - (c.args.round.m - 1) = omega (arith, l.early, round (goal.at.read_shift-requires c).Else-audited) in record {
       header_known = (c.requires.0, c.requires.1.fits, l.further, omega (arith, l.early), l.low, l.high);
-      n_in_bounds = rw (rows, c.pairs_from-before.ensures) (earlier_pairs c.args.board.now c.args.h c.requires.0 c.args.round c.args.at c.args.walk c.requires.1 _ (round (goal.at.read_shift-requires c).Else-kind-ne-COUNTED) c.requires.2 (counted (goal.at.read_shift-requires c).Else-kind-ne-COUNTED));
+      n_in_bounds = rw (rows, c.pairs_from-before.ensures) (earlier_pairs c.args.board.now c.args.h c.requires.0 c.args.round c.args.at c.args.walk c.requires.1 _ (round (goal.at.read_shift-requires c).Else-audited) c.requires.2 (counted (goal.at.read_shift-requires c).Else-audited));
     }
 
-pub returns-then-kind-ne-COUNTED : goal.returns-then-kind-ne-COUNTED
-returns-then-kind-ne-COUNTED c =
+pub returns-then-audited : goal.returns-then-audited
+returns-then-audited c =
     let k = kind c.args.board.now (head_of c.args.board.now c.args.h) c.args.walk.k in
-    later_none c.args.board.now c.args.h _ _ _ _ c.requires.3.further (ne_eqb k 0 (λ z. omega (arith, z, kind_of_lem (goal.at.returns-then-kind-ne-COUNTED c).After-kind))) c.requires.1.fits
+    later_none c.args.board.now c.args.h _ _ _ _ c.requires.3.further (ne_eqb k 0 (λ z. omega (arith, z, kind_of_lem (goal.at.returns-then-audited c).After-kind-audited))) c.requires.1.fits
 
 pub returns : goal.returns
 returns c =
-    later_shift c.args.board.now c.args.h _ _ _ _ _ _ _ (round (goal.at.returns c).Else-kind-ne-COUNTED) (counted (goal.at.returns c).Else-kind-ne-COUNTED) c.requires.1.here
-    (c.pairs_from-before.ensures ∙ rw (c.requires.1.earlier _ (round (goal.at.returns c).Else-kind-ne-COUNTED))) c.read_shift.ensures
+    later_shift c.args.board.now c.args.h _ _ _ _ _ _ _ (round (goal.at.returns c).Else-audited) (counted (goal.at.returns c).Else-audited) c.requires.1.here
+    (c.pairs_from-before.ensures ∙ rw (c.requires.1.earlier _ (round (goal.at.returns c).Else-audited))) c.read_shift.ensures
 
-pub kind-requires : goal.kind-requires
-kind-requires c = c.requires.1.ballot_fits
+pub kind-audited-requires : goal.kind-audited-requires
+kind-audited-requires c = c.requires.1.ballot_fits
 
 pub overflow_sub-m : goal.overflow_sub-m
 overflow_sub-m c = omega (arith, c.requires.3.further)
