@@ -136,7 +136,7 @@ def refusals():
     """The names and numbers of all refusals in the source, of those in the header, and of those of a
     check in bench/plain."""
     numbers = [(in_capitals(name), int(number)) for name, number in re.findall(
-        r'Refusal::(\w+) => (\d+),', source('crates/rules/src/lib.rt'))]
+        r'^    (\w+) = (\d+),$', source('crates/rules/src/lib.rt'), re.M)]
     header = re.search(r'enum gooseoften_refusal \{(.*?)\}', source('include/gooseoften.h'), re.S)
     plain = re.search(r'refusals\. \*/\nenum \{(.*?)\}', source('bench/plain/plain.h'), re.S)
     return (numbers, in_order(header.group(1), 'GOOSEOFTEN'),

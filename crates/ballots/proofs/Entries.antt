@@ -7,6 +7,7 @@ use native.Mathlib.Omega.{arith}
 use lib.ListN.{length, get_or, replicate}
 use Rattle.sha256.specs.Message.{sha256}
 use Rattle.group.specs.Elements.{Parameters}
+use Rattle.group.specs.declared.Element.{Element}
 use Rattle.group.specs.declared.Exponent.{Exponent}
 use Rattle.rules.specs.Proofs.{Statement, Context}
 use Rattle.rules.specs.Claims.{matrix_at, entry_claim, row_claim, column_claim}
@@ -47,12 +48,12 @@ drawn_of q draws b s v from count w e few inside small =
       below = λ d h. w.below d (omega arith);
     }
 
-pub planned_line : (g : Parameters) (page inverses : List ℕ) (claim : Claim) (draws : List ℕ) (from : ℕ) → ((l i : ℕ) → Within page inverses g claim l i) →
+pub planned_line : (g : Parameters) (page : List ℕ) (inverses : List Element) (claim : Claim) (draws : List ℕ) (from : ℕ) → ((l i : ℕ) → Within page inverses g claim l i) →
     DrawsBelow g.q draws from 1 → Planned g page inverses (plan_of claim 1 1 0 from) draws
 planned_line g page inverses claim draws from ready w =
     record { drawn = drawn_of g.q draws 1 1 0 from 1 w refl (omega arith) (omega arith) (omega arith); ready = λ l i h k. ready l i }
 
-pub planned_entry : (g : Parameters) (page inverses : List ℕ) (at : ℕ) (draws : List ℕ) (v from : ℕ) → v < 2 → at + 8 ≤ length page →
+pub planned_entry : (g : Parameters) (page : List ℕ) (inverses : List Element) (at : ℕ) (draws : List ℕ) (v from : ℕ) → v < 2 → at + 8 ≤ length page →
     DrawsBelow g.q draws from 3 → Planned g page inverses (plan_of (Entry at) 2 1 v from) draws
 unfolding Within
 planned_entry g page inverses at draws v from hv long w =
@@ -68,7 +69,7 @@ one x (suc i) h = absurd (omega arith)
 
 pub line_is : (about : Claim) (label : List ℕ) (context : Context) (g : Parameters) (claim : ℕ → ℕ → Statement) (said : Statement) (w : Exponent) (x : ℕ) (draws : List ℕ) (from : ℕ) →
     ((l i : ℕ) → claim l i ≡ said) → w.0 ≡ x % g.q →
-    proof_of label context g claim (record { plan = plan_of about 1 1 0 from; witness = alone w }) draws ≡ proof_bytes g (line_prover context draws said x from) sha256 label
+    proof_of label context g claim (plan_of about 1 1 0 from) (alone w) draws ≡ proof_bytes g (line_prover context draws said x from) sha256 label
 line_is about label context g claim said w x draws from says e =
     proof_same sha256 label context g (λ d. get_or draws d 0) 1 1 0 from claim (λ _ _. said) _ _ (λ l i h k. says l i)
     (λ i h. ap (λ (a : ℕ). a % g.q) (one w i h ∙ e) ∙ mod-mod x g.q)
@@ -85,13 +86,13 @@ line_says g n number list page draws label from t low same l i =
     (λ h. by_column n (row_claim g n M) (column_claim g n M) t h ∙ column_same g n M N (t - n) same (omega arith) ∙ sym (by_column n (row_claim g n N) (column_claim g n N) t h))
 
 -- and it is within the page
-pub line_ready : (g : Parameters) (n : ℕ) (page inverses : List ℕ) → 8 * (n * n) ≤ length page → (l i t : ℕ) → t < n + n →
+pub line_ready : (g : Parameters) (n : ℕ) (page : List ℕ) (inverses : List Element) → 8 * (n * n) ≤ length page → (l i t : ℕ) → t < n + n →
     Within page inverses g (Line (8 * line_start n t) (8 * line_stride n t) n) l i
 line_ready g n page inverses long l i t low = rw (zero-add (8 * line_start n t)) at (line_stands page g n 0 inverses (omega arith) l i t low)
 
 pub entry_is : (label : List ℕ) (g : Parameters) (n number : ℕ) (list : ℕ → ℕ) (page draws : List ℕ) (from c v : ℕ) (x : Exponent) → 0 < n → c < n * n →
     SameMatrix n n (matrix_at page n 0) (matrix_of g n list draws from) → v ≡ opened list (c / n) (c % n) → x.0 ≡ get_or draws (from + c) 0 →
-    proof_of label (ballot_context number c) g (claim_of page g (Entry (8 * c))) (record { plan = plan_of (Entry (8 * c)) 2 1 v (from + n * n + 3 * c); witness = alone x }) draws
+    proof_of label (ballot_context number c) g (claim_of page g (Entry (8 * c))) (plan_of (Entry (8 * c)) 2 1 v (from + n * n + 3 * c)) (alone x) draws
     ≡ entry_in label g n number list draws from c
 entry_is label g n number list page draws from c v x some low same ev ex =
     let here : claim_of page g (Entry (8 * c)) ≡ (λ l _. entry_claim g ((matrix_at page n 0).b (c / n) (c % n)) ((matrix_at page n 0).y (c / n) (c % n)) l) =

@@ -1,11 +1,12 @@
 -- A ballot's record from its parts.
-use Prim.Native.Nat.{ℕ, ◌+◌, ◌*◌, ◌<◌}
+use Prim.Native.Nat.{ℕ, zero, suc, ◌+◌, ◌*◌, ◌≤◌, ◌<◌}
 use mathlib.Core.Path.{◌≡◌, refl, sym}
 use mathlib.Core.List.{List, [], ◌∷◌, ◌++◌, append_assoc, append-nil}
 use native.Mathlib.Nat.{add_assoc}
 use native.Mathlib.Omega.{arith}
 use borrow.Author.Tests.{eq-eqb, ne_eqb}
-use lib.ListN.{length, get_or, length-append}
+use lib.ListN.{length, get_or, take, length-append}
+use lib.Seq.{take-suc}
 use Rattle.numbers.specs.Below.{sum_below, concat_below}
 use Rattle.numbers.proofs.Blocks.{length_blocks, blocks_grid}
 use Rattle.rules.specs.Bytes.{bytes2, bytes4}
@@ -77,7 +78,13 @@ module _ (label : List ℕ) (g : Parameters) (n number : ℕ) (list : ℕ → �
 pub length_exponents : (count : ℕ) (draws : List ℕ) (from : ℕ) → length (concat_below count (λ c. bytes4 (get_or draws (from + c) 0))) ≡ 4 * count
 length_exponents count draws from = omega (arith, length_blocks count 4 (λ c. bytes4 (get_or draws (from + c) 0)) (λ _ _. refl))
 
-pub audit_joined : (n : ℕ) (list : ℕ → ℕ) (draws : List ℕ) (from : ℕ) →
-    concat_below (n * n) (λ c. bytes4 (get_or draws (from + c) 0)) ++ concat_below n (λ i. list i ∷ []) ≡ audit_bytes n list draws from
+-- a list's first so many, one after another
+singles : (n : ℕ) (l : List ℕ) → n ≤ length l → concat_below n (λ i. get_or l i 0 ∷ []) ≡ take n l
+unfolding concat_below
+singles zero l h = refl
+singles (suc n) l h = rw (singles n l (omega arith)) (sym (take-suc l n 0 (omega arith)))
+
+pub audit_joined : (n : ℕ) (list draws : List ℕ) (from : ℕ) → n ≤ length list →
+    concat_below (n * n) (λ c. bytes4 (get_or draws (from + c) 0)) ++ take n list ≡ audit_bytes n (λ i. get_or list i 0) draws from
 unfolding audit_bytes
-audit_joined n list draws from = rw (← blocks_grid n n (λ c. bytes4 (get_or draws (from + c) 0)))
+audit_joined n list draws from h = rw (← blocks_grid n n (λ c. bytes4 (get_or draws (from + c) 0)), singles n list h)

@@ -7,6 +7,7 @@ use native.Mathlib.Omega.{arith}
 use lib.ListN.{length, get_or}
 use Rattle.sha256.specs.Message.{sha256}
 use Rattle.group.specs.Elements.{Parameters}
+use Rattle.group.specs.declared.Element.{Element}
 use Rattle.group.specs.declared.Exponent.{Exponent}
 use Rattle.rules.proofs.Sizes.{few_pairs}
 use Rattle.rules.specs.Bytes.{bytes2}
@@ -31,8 +32,8 @@ module _ (g : Parameters) (s : Shift) (draws : List ℕ) (w : Shifting g.p g.q s
   pub cells_few : (s.rows + 1) * s.n ≤ 64
   cells_few = few_pairs (s.rows + 1) s.n (omega (arith, w)) (omega (arith, w))
 
-  pub planned_shift : (page inverses : List ℕ) → 1024 ≤ length page → InverseTable page g.p g.q 0 (2 * ((s.rows + 1) * s.n)) inverses →
-      Planned g page inverses (plan_of (Shifted 0 512 s.rows s.n s.column) (s.rows + 1) (2 + s.rows * s.n) s.struck (s.new + s.rows * s.n)) draws
+  pub planned_shift : (page : List ℕ) (inverses : List Element) → 1024 ≤ length page → InverseTable page g.p g.q 0 (2 * ((s.rows + 1) * s.n)) inverses →
+      Planned g page inverses (plan_of (Shifted (record { before = 0; new = 512; rows = s.rows; n = s.n; a = s.column })) (s.rows + 1) (2 + s.rows * s.n) s.struck (s.new + s.rows * s.n)) draws
   unfolding Within
   planned_shift page inverses long t =
       record {
@@ -62,7 +63,7 @@ module _ (g : Parameters) (s : Shift) (draws : List ℕ) (w : Shifting g.p g.q s
   pub shift_proof_is : (label page : List ℕ) (t : List Exponent) → SameMatrix (s.rows + 1) s.n (matrix_at page s.n 0) (old_matrix g s draws) →
       SameMatrix s.rows s.n (matrix_at page s.n 512) (new_matrix g s draws) →
       Witnessed g.q s.n draws s.old s.new s.column s.struck (2 + s.rows * s.n) t →
-      proof_of label (shift_context s.round s.number) g (claim_of page g (Shifted 0 512 s.rows s.n s.column)) (record { plan = plan_of (Shifted 0 512 s.rows s.n s.column) (s.rows + 1) (2 + s.rows * s.n) s.struck (s.new + s.rows * s.n); witness = t }) draws ≡ shift_proof_of label g s draws
+      proof_of label (shift_context s.round s.number) g (claim_of page g (Shifted (record { before = 0; new = 512; rows = s.rows; n = s.n; a = s.column }))) (plan_of (Shifted (record { before = 0; new = 512; rows = s.rows; n = s.n; a = s.column })) (s.rows + 1) (2 + s.rows * s.n) s.struck (s.new + s.rows * s.n)) t draws ≡ shift_proof_of label g s draws
   unfolding claim_of
   shift_proof_is label page t fo fn ft =
       proof_same sha256 label (shift_context s.round s.number) g (λ d. get_or draws d 0) (s.rows + 1) (2 + s.rows * s.n) s.struck (s.new + s.rows * s.n) _ _ _ _

@@ -1,5 +1,5 @@
 // What an audited ballot shows behind its proofs: the exponents of its pairs by rows, and its ranking.
-ghost use Rattle.std.specs.Prelude.{◌≡◌, [], ◌∷◌, ◌+◌, ◌*◌, ◌^◌, ◌≤◌, ◌<◌, length, get_or};
+ghost use Rattle.std.specs.Prelude.{◌≡◌, ◌+◌, ◌*◌, ◌^◌, ◌≤◌, ◌<◌, length, get_or};
 ghost use Rattle.numbers.specs.Below.{concat_below};
 ghost use Rattle.rules.specs.Bytes.{bytes4};
 ghost use Rattle.rules.specs.Records.{audit_length};
@@ -18,23 +18,12 @@ fn write_exponents(out: &mut [u8], count: usize, draws: &[u32], from: usize)
     }
 }
 
-fn write_ranking(out: &mut [u8], n: usize, list: [u8; 8])
-    requires { (n ≤ 8) × (n ≤ length out.old) }
-    ensures { out.new ≡ written (concat_below n (λ i. get_or list i 0 ∷ [])) out.old }
-{
-    for i in 0..n {
-        output::put_byte(&mut out[i..], list[i]);
-    }
-}
-
 pub fn write_audit(out: &mut [u8], b: Ballot, draws: &[u32])
     requires { (b.n ≤ 8) × (audit_length b.n ≤ length out.old) × (b.from < 2 ^ 40) × (b.from + b.n * b.n ≤ length draws.now) }
     ensures { out.new ≡ written (audit_bytes b.n (λ k. get_or b.list k 0) draws.now b.from) out.old }
 {
-    let n = b.n;
-    let list = b.list;
-    let count = n * n;
-    write_exponents(out, count, draws, b.from);
+    let count = b.n * b.n;
     let at = 4 * count;
-    write_ranking(&mut out[at..], n, list);
+    write_exponents(out, count, draws, b.from);
+    output::put_bytes(&mut out[at..], &b.list[..b.n]);
 }

@@ -3,7 +3,7 @@
 
 mod audit;
 pub mod ballot;
-mod lines;
 mod pairs;
+mod prover;
 pub mod shift;
 pub mod sums;

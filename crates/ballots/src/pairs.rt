@@ -15,10 +15,12 @@ pub fn opened(list: [u8; 8], i: usize, j: usize) -> u32
     requires { (i < 8) × (j < 8) }
     ensures { (result ≡ opened (λ k. get_or list k 0) i j) × (result < 2) }
 {
-    if numbers::wide(list[i]) == j + 1 {
-        return 1;
+    let process = j + 1;
+    if usize::from(list[i]) == process {
+        1
+    } else {
+        0
     }
-    0
 }
 
 // The pair of x and v.
@@ -26,11 +28,8 @@ fn put_pair(out: &mut [u8], g: Group, x: Exponent, v: Exponent)
     requires { (0 < g.p) × (8 ≤ length out.old) }
     ensures { out.new ≡ written (bytes4 (paired (parameters_of g) x.0 v.0) ++ bytes4 (pow_mod g.p g.g1.0 x.0)) out.old }
 {
-    let p = g.p;
-    let g0 = g.g0;
-    let g1 = g.g1;
-    let b = group::mul(p, group::pow(p, g0, x), group::pow(p, g1, v));
-    let y = group::pow(p, g1, x);
+    let b = group::mul(g.p, group::pow(g.p, g.g0, x), group::pow(g.p, g.g1, v));
+    let y = group::pow(g.p, g.g1, x);
     output::put_number4(out, b.0);
     output::put_number4(&mut out[4..], y.0);
 }

@@ -15,10 +15,10 @@ pub fn sum_of(q: u32, draws: &[u32], at: usize, stride: usize, count: usize, but
     let mut sum: u64 = 0;
     for i in 0..count {
         if i != but {
-            sum += draws[at + stride * i] as u64;
+            sum += u64::from(draws[at + stride * i]);
         }
     }
-    group::reduce_exp(sum, q)
+    group::reduce(sum, q)
 }
 
 // How much of one secret is left past another, modulo q.
@@ -36,20 +36,15 @@ pub fn witnesses(q: u32, s: Shift, draws: &[u32]) -> [Exponent; 64]
     ensures { Witnessed q s.n draws.now s.old s.new s.column s.struck (2 + s.rows * s.n) result }
 {
     let n = s.n;
-    let rows = s.rows;
-    let a = s.column;
-    let l = s.struck;
-    let old = s.old;
-    let new = s.new;
-    let count = rows * n;
-    let row = old + l * n;
+    let count = s.rows * n;
+    let row = s.old + s.struck * n;
     let mut w = [Exponent(0); 64];
-    w[0] = Exponent(draws[row + a]);
-    w[1] = sum_of(q, draws, row, 1, n, a);
+    w[0] = Exponent(draws[row + s.column]);
+    w[1] = sum_of(q, draws, row, 1, n, s.column);
     for c in 0..count {
-        let from = claims::source_of(n, l, c);
-        let x = draws[new + c];
-        let y = draws[old + from];
+        let from = claims::source_of(n, s.struck, c);
+        let x = draws[s.new + c];
+        let y = draws[s.old + from];
         w[2 + c] = past(q, Exponent(x), Exponent(y));
     }
     w

@@ -11,6 +11,7 @@ use Rattle.count.specs.State.{counts_on, list_of, Listed}
 use Rattle.count.specs.declared.Sheet.{Sheet}
 use Rattle.count.specs.declared.Count.{Count}
 use Rattle.boards.specs.declared.Head.{Head}
+use Rattle.boards.specs.declared.Entries.{Entries}
 use Rattle.boards.specs.declared.records.RoundPlan.{RoundPlan}
 use Rattle.boards.specs.declared.records.Turn.{Turn}
 
@@ -18,10 +19,10 @@ use Rattle.boards.specs.declared.records.Turn.{Turn}
 abbrev pub head_group : Head → Parameters
 head_group head = parameters_of head.setup.group
 
-abbrev pub board_job : Head → (label rankings kinds draws : List ℕ) → J.Job
-board_job head label rankings kinds draws =
-    let g = head_group head in
-    record { n = head.n; K = head.k; p = g.p; q = g.q; g0 = g.g0; counter = head.counter; label = label; rankings = rankings; kinds = kinds; draws = draws }
+abbrev pub board_job : Entries → J.Job
+board_job e =
+    let g = head_group e.head in
+    record { n = e.head.n; K = e.head.k; p = g.p; q = g.q; g0 = g.g0; counter = e.head.counter; label = e.label.now; rankings = e.rankings.now; kinds = e.kinds.now; draws = e.draws.now }
 
 -- the draws, and the bytes, of a job's rounds before m
 abbrev pub draws_before : J.Job → (m : ℕ) → ℕ

@@ -7,7 +7,7 @@ ghost use Rattle.jobs.specs.Board.{header_bytes};
 ghost use Rattle.output.specs.Written.{written};
 ghost use Rattle.boards.specs.Parts.{board_job, head_group};
 
-use crate::Head;
+use crate::Entries;
 use group::Group;
 
 fn put_group(out: &mut [u8], g: Group, counter: u8)
@@ -21,15 +21,14 @@ fn put_group(out: &mut [u8], g: Group, counter: u8)
     output::put_number4(&mut out[13..], g.g1.0);
 }
 
-pub fn write_header(out: &mut [u8], head: Head, label: &[u8])
-    requires { (head.n < 256) × (head.k < 65536) × (length label.now ≡ 32) × (header_length ≤ length out.old) }
-    ensures { out.new ≡ written (header_bytes sha256 (board_job head label.now [] [] []) (head_group head)) out.old }
+pub fn write_header(out: &mut [u8], entries: Entries)
+    requires { (entries.head.n < 256) × (entries.head.k < 65536) × (length entries.label.now ≡ 32) × (header_length ≤ length out.old) }
+    ensures { out.new ≡ written (header_bytes sha256 (board_job entries.entry) (head_group entries.entry.head)) out.old }
 {
-    let n = numbers::low(head.n);
-    let k = numbers::low16(head.k);
+    let head = entries.head;
     output::put_two(out, layout::HF);
-    output::put_byte(&mut out[2..], n);
-    output::put_number2(&mut out[3..], k);
+    output::put_byte(&mut out[2..], head.n as u8);
+    output::put_number2(&mut out[3..], head.k as u32);
     put_group(&mut out[5..], head.setup.group, head.counter);
-    output::put_bytes(&mut out[22..], label);
+    output::put_bytes(&mut out[22..], entries.label);
 }

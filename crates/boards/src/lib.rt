@@ -1,6 +1,8 @@
 // The board of a job, record by record, each into the unwritten rest of a lent output.
 #![tactic(auto)]
 
+ghost use Rattle.statements.specs.Values.{Ready};
+
 use statements::Setup;
 
 mod header;
@@ -15,4 +17,15 @@ pub struct Head {
     pub k: usize,
     pub counter: u8,
     pub setup: Setup,
+    pub ghost ready: { Ready setup },
+}
+
+// What a board is written from: its header, its label, and the rankings, the kinds and the draws of its ballots.
+#[derive(Clone, Copy)]
+pub struct Entries<'a> {
+    pub head: Head,
+    pub label: &'a [u8],
+    pub rankings: &'a [u8],
+    pub kinds: &'a [u8],
+    pub draws: &'a [u32],
 }

@@ -6,11 +6,10 @@ ghost use Rattle.rules.specs.Records.{record_length};
 ghost use Rattle.jobs.specs.Job.{record_draws};
 ghost use Rattle.jobs.specs.Board.{record_bytes};
 ghost use Rattle.output.specs.Written.{written};
-ghost use Rattle.statements.specs.Values.{Ready};
 ghost use Rattle.count.specs.State.{list_of};
 ghost use Rattle.boards.specs.Parts.{board_job, head_group, RoundReady, TurnReady, plan_records};
 
-use crate::Head;
+use crate::Entries;
 use ballots::ballot::Ballot;
 use ballots::shift::Shift;
 use ballots::{ballot, shift};
@@ -41,89 +40,68 @@ pub struct Turn {
 }
 
 // A ballot in the first round.
-fn write_first(
-    out: &mut [u8],
-    label: &[u8],
-    head: Head,
-    rankings: &[u8],
-    kinds: &[u8],
-    draws: &[u32],
-    turn: Turn,
-)
-    requires { Ready head.setup × TurnReady (board_job head label.now rankings.now kinds.now draws.now) turn × (turn.plan.m ≡ 0) × (record_length head.n (get_or kinds.now turn.b 0) turn.plan.m ≤ length out.old) }
-    ensures { out.new ≡ written (record_bytes sha256 (board_job head label.now rankings.now kinds.now draws.now) (head_group head) (list_of turn.plan.before) turn.plan.a turn.plan.m turn.b) out.old }
+fn write_first(out: &mut [u8], entries: Entries, turn: Turn)
+    requires { TurnReady (board_job entries) turn × (turn.plan.m ≡ 0) × (record_length entries.head.n (get_or entries.kinds.now turn.b 0) turn.plan.m ≤ length out.old) }
+    ensures { out.new ≡ written (record_bytes sha256 (board_job entries.entry) (head_group entries.entry.head) (list_of turn.plan.before) turn.plan.a turn.plan.m turn.b) out.old }
 {
-    let n = head.n;
+    let n = entries.head.n;
     let b = turn.b;
-    let first = b * n;
-    let gone = turn.plan.gone;
-    let list = rankings::still_in(rankings, first, n, gone);
+    let list = rankings::still_in(entries.rankings, b * n, n, turn.plan.gone);
     let ballot = Ballot {
         n,
-        number: numbers::low16(b + 1),
-        kind: kinds[b],
+        number: (b + 1) as u32,
+        kind: entries.kinds[b],
         list,
         from: turn.new,
     };
-    ballot::write_ballot(out, label, head.setup, ballot, draws);
+    ballot::write_ballot(
+        out,
+        entries.label,
+        entries.head.setup,
+        ballot,
+        entries.draws,
+    );
 }
 
 // A ballot in a later round: an audited one has no record there.
-fn write_later(
-    out: &mut [u8],
-    label: &[u8],
-    head: Head,
-    rankings: &[u8],
-    kinds: &[u8],
-    draws: &[u32],
-    turn: Turn,
-)
-    requires { Ready head.setup × TurnReady (board_job head label.now rankings.now kinds.now draws.now) turn × (0 < turn.plan.m) × (record_length head.n (get_or kinds.now turn.b 0) turn.plan.m ≤ length out.old) }
-    ensures { out.new ≡ written (record_bytes sha256 (board_job head label.now rankings.now kinds.now draws.now) (head_group head) (list_of turn.plan.before) turn.plan.a turn.plan.m turn.b) out.old }
+fn write_later(out: &mut [u8], entries: Entries, turn: Turn)
+    requires { TurnReady (board_job entries) turn × (0 < turn.plan.m) × (record_length entries.head.n (get_or entries.kinds.now turn.b 0) turn.plan.m ≤ length out.old) }
+    ensures { out.new ≡ written (record_bytes sha256 (board_job entries.entry) (head_group entries.entry.head) (list_of turn.plan.before) turn.plan.a turn.plan.m turn.b) out.old }
 {
-    let n = head.n;
+    let n = entries.head.n;
     let plan = turn.plan;
     let m = plan.m;
     let b = turn.b;
-    if numbers::wide(kinds[b]) != layout::COUNTED {
+    let kind = usize::from(entries.kinds[b]);
+    if kind != layout::COUNTED {
         return;
     }
     let first = b * n;
-    let was = plan.before;
-    let gone = plan.gone;
-    let before = rankings::still_in(rankings, first, n, was);
-    let after = rankings::still_in(rankings, first, n, gone);
+    let before = rankings::still_in(entries.rankings, first, n, plan.before);
+    let after = rankings::still_in(entries.rankings, first, n, plan.gone);
     let s = Shift {
         n,
         rows: n - m,
-        round: numbers::low(m + 1),
-        number: numbers::low16(b + 1),
+        round: (m + 1) as u8,
+        number: (b + 1) as u32,
         before,
         after,
         struck: rankings::row_of(before, n - m + 1, plan.a),
-        column: numbers::wide(plan.a) - 1,
+        column: usize::from(plan.a) - 1,
         old: turn.old,
         new: turn.new,
     };
-    shift::write_shift(out, label, head.setup, s, draws);
+    shift::write_shift(out, entries.label, entries.head.setup, s, entries.draws);
 }
 
-fn write_record(
-    out: &mut [u8],
-    label: &[u8],
-    head: Head,
-    rankings: &[u8],
-    kinds: &[u8],
-    draws: &[u32],
-    turn: Turn,
-)
-    requires { Ready head.setup × TurnReady (board_job head label.now rankings.now kinds.now draws.now) turn × (record_length head.n (get_or kinds.now turn.b 0) turn.plan.m ≤ length out.old) }
-    ensures { out.new ≡ written (record_bytes sha256 (board_job head label.now rankings.now kinds.now draws.now) (head_group head) (list_of turn.plan.before) turn.plan.a turn.plan.m turn.b) out.old }
+fn write_record(out: &mut [u8], entries: Entries, turn: Turn)
+    requires { TurnReady (board_job entries) turn × (record_length entries.head.n (get_or entries.kinds.now turn.b 0) turn.plan.m ≤ length out.old) }
+    ensures { out.new ≡ written (record_bytes sha256 (board_job entries.entry) (head_group entries.entry.head) (list_of turn.plan.before) turn.plan.a turn.plan.m turn.b) out.old }
 {
     if turn.plan.m == 0 {
-        write_first(out, label, head, rankings, kinds, draws, turn);
+        write_first(out, entries, turn);
     } else {
-        write_later(out, label, head, rankings, kinds, draws, turn);
+        write_later(out, entries, turn);
     }
 }
 
@@ -133,34 +111,26 @@ fn draws_before(n: usize, kind: usize, m: usize) -> usize
     ensures { ((j : ℕ) → m ≡ suc j → result ≡ record_draws n kind j) × (result ≤ 1000) }
 {
     if m == 0 {
-        return 0;
+        0
+    } else {
+        rounds::record_draws(n, kind, m - 1)
     }
-    rounds::record_draws(n, kind, m - 1)
 }
 
 // The records of all ballots, and how many bytes they are.
-pub fn write_records(
-    out: &mut [u8],
-    label: &[u8],
-    head: Head,
-    rankings: &[u8],
-    kinds: &[u8],
-    draws: &[u32],
-    plan: RoundPlan,
-) -> usize
-    requires { Ready head.setup × RoundReady (board_job head label.now rankings.now kinds.now draws.now) plan × (sum_below head.k (λ i. record_length head.n (get_or kinds.now i 0) plan.m) ≤ length out.old) }
-    ensures { (result ≡ sum_below head.k (λ i. record_length head.n (get_or kinds.now i 0) plan.m)) × (out.new ≡ written (plan_records sha256 (board_job head label.now rankings.now kinds.now draws.now) (head_group head) plan) out.old) }
+pub fn write_records(out: &mut [u8], entries: Entries, plan: RoundPlan) -> usize
+    requires { RoundReady (board_job entries) plan × (sum_below entries.head.k (λ i. record_length entries.head.n (get_or entries.kinds.now i 0) plan.m) ≤ length out.old) }
+    ensures { (result ≡ sum_below entries.entry.head.k (λ i. record_length entries.entry.head.n (get_or entries.entry.kinds.now i 0) plan.m)) × (out.new ≡ written (plan_records sha256 (board_job entries.entry) (head_group entries.entry.head) plan) out.old) }
 {
-    let n = head.n;
-    let k = head.k;
+    let n = entries.head.n;
     let m = plan.m;
     let mut at = 0;
     let mut old = plan.old;
     let mut new = plan.new;
-    for b in 0..k {
-        let kind = numbers::wide(kinds[b]);
+    for b in 0..entries.head.k {
+        let kind = usize::from(entries.kinds[b]);
         let turn = Turn { plan, b, old, new };
-        write_record(&mut out[at..], label, head, rankings, kinds, draws, turn);
+        write_record(&mut out[at..], entries, turn);
         at += layout::record_length(n, kind, m);
         old += draws_before(n, kind, m);
         new += rounds::record_draws(n, kind, m);

@@ -5,11 +5,10 @@ ghost use Rattle.sha256.specs.Message.{sha256};
 ghost use Rattle.rules.specs.Records.{header_length, record_length, sheet_length};
 ghost use Rattle.jobs.specs.Board.{header_bytes};
 ghost use Rattle.output.specs.Written.{written};
-ghost use Rattle.statements.specs.Values.{Ready};
 ghost use Rattle.boards.specs.Parts.{board_job, head_group, bytes_before, RoundReady, Planned, Writable, Sheeted, plan_bytes, round_bytes};
 
 use crate::records::RoundPlan;
-use crate::{Head, header, records, sheet};
+use crate::{Entries, header, records, sheet};
 use count::Count;
 use plain::rounds;
 
@@ -19,24 +18,14 @@ fn plan_of(count: Count, m: usize, old: usize, new: usize) -> RoundPlan
     ensures { Planned count m old new result }
 {
     let order = count.gone.order;
-    let sheets = count.sheets;
-    let sheet = sheets[m];
+    let sheet = count.sheets[m];
     let out = order[m];
     let gone = count::first_of(order, m);
-    if m == 0 {
-        return RoundPlan {
-            m,
-            before: gone,
-            gone,
-            a: 0,
-            old,
-            new,
-            out,
-            sheet,
-        };
-    }
-    let before = count::first_of(order, m - 1);
-    let a = order[m - 1];
+    let (before, a) = if m == 0 {
+        (gone, 0)
+    } else {
+        (count::first_of(order, m - 1), order[m - 1])
+    };
     RoundPlan {
         m,
         before,
@@ -50,44 +39,27 @@ fn plan_of(count: Count, m: usize, old: usize, new: usize) -> RoundPlan
 }
 
 // Its records, and its sheet as it was counted.
-fn write_round(
-    out: &mut [u8],
-    label: &[u8],
-    head: Head,
-    rankings: &[u8],
-    kinds: &[u8],
-    draws: &[u32],
-    plan: RoundPlan,
-)
-    requires { Ready head.setup × RoundReady (board_job head label.now rankings.now kinds.now draws.now) plan × (sum_below head.k (λ i. record_length head.n (get_or kinds.now i 0) plan.m) + sheet_length head.n ≤ length out.old) }
-    ensures { out.new ≡ written (plan_bytes sha256 (board_job head label.now rankings.now kinds.now draws.now) (head_group head) plan) out.old }
+fn write_round(out: &mut [u8], entries: Entries, plan: RoundPlan)
+    requires { RoundReady (board_job entries) plan × (sum_below entries.head.k (λ i. record_length entries.head.n (get_or entries.kinds.now i 0) plan.m) + sheet_length entries.head.n ≤ length out.old) }
+    ensures { out.new ≡ written (plan_bytes sha256 (board_job entries.entry) (head_group entries.entry.head) plan) out.old }
 {
-    let at = records::write_records(out, label, head, rankings, kinds, draws, plan);
-    sheet::write_sheet(&mut out[at..], head, kinds, draws, plan);
+    let at = records::write_records(out, entries, plan);
+    sheet::write_sheet(&mut out[at..], entries, plan);
 }
 
-fn write_rounds(
-    out: &mut [u8],
-    label: &[u8],
-    head: Head,
-    rankings: &[u8],
-    kinds: &[u8],
-    draws: &[u32],
-    count: Count,
-)
-    requires { Ready head.setup × Writable (board_job head label.now rankings.now kinds.now draws.now) count.gone.order (count.gone.outs + 1) × Sheeted (board_job head label.now rankings.now kinds.now draws.now) count × (bytes_before (board_job head label.now rankings.now kinds.now draws.now) (count.gone.outs + 1) ≤ length out.old + header_length) }
-    ensures { out.new ≡ written (concat_below (count.gone.outs + 1) (round_bytes sha256 (board_job head label.now rankings.now kinds.now draws.now) (head_group head) count.gone.order)) out.old }
+fn write_rounds(out: &mut [u8], entries: Entries, count: Count)
+    requires { Writable (board_job entries) count.gone.order (count.gone.outs + 1) × Sheeted (board_job entries) count × (bytes_before (board_job entries) (count.gone.outs + 1) ≤ length out.old + header_length) }
+    ensures { out.new ≡ written (concat_below (count.gone.outs + 1) (round_bytes sha256 (board_job entries.entry) (head_group entries.entry.head) count.gone.order)) out.old }
 {
-    let n = head.n;
-    let k = head.k;
+    let n = entries.head.n;
     let end = count.gone.outs + 1;
     let mut at = 0;
     let mut old = 0;
     let mut new = 0;
     for m in 0..end {
         let plan = plan_of(count, m, old, new);
-        write_round(&mut out[at..], label, head, rankings, kinds, draws, plan);
-        let round = rounds::measure_round(kinds, n, k, m);
+        write_round(&mut out[at..], entries, plan);
+        let round = rounds::measure_round(entries.kinds, n, entries.head.k, m);
         at += round.length + layout::sheet_length(n);
         old = new;
         new += round.needed;
@@ -95,27 +67,11 @@ fn write_rounds(
 }
 
 // The whole board of a count that has ended.
-pub fn write_board(
-    out: &mut [u8],
-    label: &[u8],
-    head: Head,
-    rankings: &[u8],
-    kinds: &[u8],
-    draws: &[u32],
-    count: Count,
-)
-    requires ready { Ready head.setup × Writable (board_job head label.now rankings.now kinds.now draws.now) count.gone.order (count.gone.outs + 1) × Sheeted (board_job head label.now rankings.now kinds.now draws.now) count }
-    requires label_len { (length label.now ≡ 32) × (header_length ≤ length out.old) × (bytes_before (board_job head label.now rankings.now kinds.now draws.now) (count.gone.outs + 1) ≤ length out.old) }
-    ensures { out.new ≡ written (header_bytes sha256 (board_job head label.now rankings.now kinds.now draws.now) (head_group head) ++ concat_below (count.gone.outs + 1) (round_bytes sha256 (board_job head label.now rankings.now kinds.now draws.now) (head_group head) count.gone.order)) out.old }
+pub fn write_board(out: &mut [u8], entries: Entries, count: Count)
+    requires ready { Writable (board_job entries) count.gone.order (count.gone.outs + 1) × Sheeted (board_job entries) count }
+    requires label_len { (length entries.label.now ≡ 32) × (header_length ≤ length out.old) × (bytes_before (board_job entries) (count.gone.outs + 1) ≤ length out.old) }
+    ensures { out.new ≡ written (header_bytes sha256 (board_job entries.entry) (head_group entries.entry.head) ++ concat_below (count.gone.outs + 1) (round_bytes sha256 (board_job entries.entry) (head_group entries.entry.head) count.gone.order)) out.old }
 {
-    header::write_header(out, head, label);
-    write_rounds(
-        &mut out[layout::HEADER_LENGTH..],
-        label,
-        head,
-        rankings,
-        kinds,
-        draws,
-        count,
-    );
+    header::write_header(out, entries);
+    write_rounds(&mut out[layout::HEADER_LENGTH..], entries, count);
 }

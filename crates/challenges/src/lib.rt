@@ -13,43 +13,27 @@ use sha256::Hasher;
 pub fn feed_context(labelled: Hasher, mark: [u8; 2], number: u32, round: u8, place: usize) -> Hasher
     ensures { stream_of result ≡ feed (stream_of labelled) (context_bytes (record { mark = mark; number = number; round = round; place = place })) }
 {
-    let bytes = [
+    let [.., number_high, number_low] = number.to_be_bytes();
+    let [.., place_high, place_low] = place.to_be_bytes();
+    labelled.update(&[
         mark[0],
         mark[1],
-        (number / 256 % 256) as u8,
-        (number % 256) as u8,
+        number_high,
+        number_low,
         round,
-        (place / 256 % 256) as u8,
-        (place % 256) as u8,
-    ];
-    labelled.update(&bytes)
+        place_high,
+        place_low,
+    ])
 }
 
 // Behind the statements before it: what a statement says, A and B, and its commitments.
 pub fn feed_statement(h: Hasher, left: Element, right: Element, t1: Element, t2: Element) -> Hasher
     ensures { stream_of result ≡ feed (stream_of h) (statement_bytes (record { left = left.0; right = right.0 }) (record { t1 = t1.0; t2 = t2.0 })) }
 {
-    let a = left.0;
-    let b = right.0;
-    let c = t1.0;
-    let d = t2.0;
-    let bytes = [
-        (a / 16777216 % 256) as u8,
-        (a / 65536 % 256) as u8,
-        (a / 256 % 256) as u8,
-        (a % 256) as u8,
-        (b / 16777216 % 256) as u8,
-        (b / 65536 % 256) as u8,
-        (b / 256 % 256) as u8,
-        (b % 256) as u8,
-        (c / 16777216 % 256) as u8,
-        (c / 65536 % 256) as u8,
-        (c / 256 % 256) as u8,
-        (c % 256) as u8,
-        (d / 16777216 % 256) as u8,
-        (d / 65536 % 256) as u8,
-        (d / 256 % 256) as u8,
-        (d % 256) as u8,
-    ];
+    let mut bytes = [0u8; 16];
+    bytes[..4].copy_from_slice(&left.0.to_be_bytes());
+    bytes[4..8].copy_from_slice(&right.0.to_be_bytes());
+    bytes[8..12].copy_from_slice(&t1.0.to_be_bytes());
+    bytes[12..].copy_from_slice(&t2.0.to_be_bytes());
     h.update(&bytes)
 }

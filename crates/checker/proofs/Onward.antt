@@ -6,7 +6,7 @@ use mathlib.Core.List.{List, [], ◌∷◌, ◌++◌}
 use mathlib.Core.Option.{Option, none, some}
 use native.Mathlib.Numerals.{add-one}
 use native.Mathlib.Omega.{arith}
-use lib.ListN.{length, take, replicate}
+use lib.ListN.{length}
 use lib.Dec.{eqb}
 use borrow.Author.Tests.{ne_eqb, not-true}
 use Rattle.sha256.specs.Message.{sha256}
@@ -14,8 +14,9 @@ use Rattle.rules.specs.Tests.{fault_below}
 use Rattle.rules.specs.Count.{table, next, leaves, wins, closes, start, ended, Standing, Result}
 use Rattle.rules.specs.Header.{Header, ranked, header}
 use Rattle.rules.specs.Check.{Verdict, accepted, refused, record_fault, round_sheet_fault, due, counted, round_verdict, check_from, check_model, counts}
-use Rattle.rules.specs.Answers.{refusal_number, answer_of, with_zeros, order_of}
-use Rattle.rules.specs.declared.Answer.TheVariants as A
+use Rattle.rules.specs.Answers.{refusal_number, verdict_of, with_zeros, order_of}
+use Rattle.rules.specs.declared.Accepted.{Accepted}
+use Rattle.rules.specs.declared.Refused.{Refused}
 use Rattle.rules.specs.declared.Model.{Model}
 use Rattle.rules.specs.declared.Refusal.{Refusal}
 use Rattle.rules.proofs.Leaving.{leaves_in_lem}
@@ -23,7 +24,8 @@ use Rattle.count.specs.declared.Count.{Count}
 use Rattle.count.specs.State.{standing_of, result_of, Kept}
 use Rattle.count.proofs.Picks.{gone_is, listed_many, padded_order}
 use Rattle.header.specs.declared.Head.{Head}
-use Rattle.header.specs.declared.HeaderRead.TheVariants.{Board, Refused}
+use Rattle.std.specs.Prelude as P
+use Rattle.std.specs.Prelude.{Ok, Err, IfOk}
 use Rattle.header.specs.Heads.{head_of, HeaderKnown, HeaderReads}
 use Rattle.rules.proofs.RefusalNumbers.{positive}
 use Rattle.numbers.proofs.Tests.{by_cases}
@@ -42,7 +44,7 @@ pub sheets_more : (s : List ℕ) (H : Header) (m : ℕ) (st st' : Standing) → 
 unfolding table
 sheets_more s H m st st' t e = ap (λ (x : Standing). x.sheets) e ∙ rw (t, add-one m)
 
-pub verdict_of_lem : (n : ℕ) (c : Count) (winner : ℕ) → answer_of (A.Accepted (c.gone.outs + 1) winner) c.gone.order ≡ accepted (c.gone.outs + 1) (standing_of n c).gone winner
+pub verdict_of_lem : (n : ℕ) (c : Count) (winner : ℕ) → verdict_of (Ok (record { rounds = c.gone.outs + 1; winner = winner; order = c.gone.order })) ≡ accepted (c.gone.outs + 1) (standing_of n c).gone winner
 verdict_of_lem n c winner =
     let e : c.gone.outs + 1 - 1 ≡ c.gone.outs = omega arith in
     ap (λ (l : List ℕ). accepted (c.gone.outs + 1) l winner) (rw e (sym (gone_is n c)))
@@ -139,35 +141,34 @@ module _ (model : Model) (s : List ℕ) where
   known_ranked h w k =
       record { ready = k.ready; low = omega (arith, w.least, k.low); high = omega (arith, w.most, k.high); some = k.some; few = omega (arith, w.ballots, k.few); long = k.long }
 
-  pub board_is : (h : Head) → HeaderReads model s (Board h) → check_from sha256 s (head_of s h) h.n start 0 0 ≡ check_model sha256 s model
+  pub board_is : (h : Head) → HeaderReads model s (Ok h) → check_from sha256 s (head_of s h) h.n start 0 0 ≡ check_model sha256 s model
   unfolding HeaderReads check_model
   board_is h o = rw o.0 (ap (λ (H : Header). check_from sha256 s H H.n start 0 0) o.1)
 
-  pub counted_is : (h : Head) (r : Counted) → HeaderReads model s (Board h) → Verified s (head_of s h) (check_from sha256 s (head_of s h) h.n start 0 0) (stops_from sha256 s (head_of s h) h.n start 0 0) r →
+  pub counted_is : (h : Head) (r : Counted) → HeaderReads model s (Ok h) → Verified s (head_of s h) (check_from sha256 s (head_of s h) h.n start 0 0) (stops_from sha256 s (head_of s h) h.n start 0 0) r →
       Verified s (header s) (check_model sha256 s model) (stops_at sha256 s model) r
   unfolding HeaderReads stops_at
   counted_is h r o w =
       let standing : stops_from sha256 s (head_of s h) h.n start 0 0 ≡ stops_at sha256 s model = rw o.0 (ap (λ (H : Header). stops_from sha256 s H H.n start 0 0) o.1) in
       rw (← board_is h o, ← standing, ← o.1) w
 
-  pub refused_is : (w : Refusal) → HeaderReads model s (Refused w) → refused (refusal_number w) 0 ≡ check_model sha256 s model
+  pub refused_is : (w : Refusal) → HeaderReads model s (Err w) → refused (refusal_number w) 0 ≡ check_model sha256 s model
   unfolding HeaderReads check_model
   refused_is w o = rw (o, ne_eqb (refusal_number w) 0 (λ z. omega (arith, positive w)))
 
-  pub starts_there : (w : Refusal) → HeaderReads model s (Refused w) → start ≡ stops_at sha256 s model
+  pub starts_there : (w : Refusal) → HeaderReads model s (Err w) → start ≡ stops_at sha256 s model
   unfolding HeaderReads stops_at
   starts_there w o = rw (o, ne_eqb (refusal_number w) 0 (λ z. omega (arith, positive w)))
 
--- ---- the verdict alone: the order of going out, or zeros
+-- ---- the order of going out, with zeros up to 8
 module _ (s : List ℕ) (h : Header) (v : Verdict) (st : Standing) (r : Counted) (w : Verified s h v st r) where
   ends_order : (rounds : ℕ) (order : List ℕ) (winner : ℕ) → Ends s h rounds order winner r.n r.count → r.count.gone.order ≡ with_zeros order
   unfolding result_of
   ends_order rounds order winner e = padded_order r.count.gone e.kept.listed ∙ ap with_zeros (ap (λ (x : Result). x.order) e.result)
 
-  pub accepted_order : (rounds winner : ℕ) → r.answer ≡ A.Accepted rounds winner → r.count.gone.order ≡ order_of v
-  accepted_order rounds winner a =
-      let e : v ≡ accepted rounds (take (rounds - 1) r.count.gone.order) winner = sym w.verdict ∙ rw a in
-      rw e (ends_order rounds _ winner (rw e at w.counted))
-
-  pub refused_order : (why : Refusal) (number : ℕ) (order : List ℕ) → r.answer ≡ A.Refused why number → (answer_of r.answer order ≡ v) × (replicate 8 0 ≡ order_of v)
-  refused_order why number order a = let e : v ≡ refused (refusal_number why) number = sym w.verdict ∙ rw a in (rw a (sym e), rw e)
+  pub verified_order : IfOk r.verdict (λ a. a.order ≡ order_of v)
+  verified_order = go r.verdict w.verdict w.ordered
+    where
+      go : (o : P.Result Accepted Refused) → verdict_of o ≡ v → IfOk o (λ a. a.order ≡ r.count.gone.order) → IfOk o (λ a. a.order ≡ order_of v)
+      go (Ok a) e g = g ∙ rw (← e) (ends_order a.rounds _ a.winner (rw (← e) at w.counted))
+      go (Err x) e g = tt

@@ -1,11 +1,11 @@
 -- A board's verdict, and the count that goes with it.
-use Rattle.std.specs.Prelude.{ℕ, zero, suc, ◌≤◌, ◌<◌, ◌≡◌, Bool, false, cond, not, ◌&&◌, List, eqb}
+use Rattle.std.specs.Prelude.{ℕ, zero, suc, ◌≤◌, ◌<◌, ◌≡◌, Bool, false, cond, not, ◌&&◌, List, eqb, IfOk}
 use Rattle.std.proofs.Math.Option.{none, some}
 use Rattle.rules.specs.Count.{Standing, start, next, leaves, closes, table}
 use Rattle.rules.specs.Tests.{fault_below}
 use Rattle.rules.specs.Header.{Header, header, header_fault}
 use Rattle.rules.specs.Check.{Verdict, accepted, refused, counts, counted, due, record_fault, round_sheet_fault}
-use Rattle.rules.specs.Answers.{answer_of}
+use Rattle.rules.specs.Answers.{verdict_of}
 use Rattle.rules.specs.declared.Model.{Model}
 use Rattle.count.specs.declared.Count.{Count}
 use Rattle.count.specs.State.{standing_of, result_of, Kept}
@@ -44,7 +44,8 @@ abbrev pub CountOf : (s : List ℕ) (h : Header) → Verdict → Standing → (n
 CountOf s h (accepted rounds order winner) st n c = Ends s h rounds order winner n c
 CountOf s h (refused refusal number) st n c = (n ≡ 0) × Kept c × (standing_of h.n c ≡ st)
 
--- the verdict, and the count; st: the standing count of the round in which the check stopped
+-- the verdict, with the count's order, and the count; st: the standing count of the round in which the check stopped
 pub record Verified (s : List ℕ) (h : Header) (v : Verdict) (st : Standing) (r : Counted) : Type 0 where
-  pub verdict : answer_of r.answer r.count.gone.order ≡ v
+  pub verdict : verdict_of r.verdict ≡ v
+  pub ordered : IfOk r.verdict (λ a. a.order ≡ r.count.gone.order)
   pub counted : CountOf s h v st r.n r.count

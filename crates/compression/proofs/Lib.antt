@@ -1,2 +1,2 @@
--- Laws of the schedule and the rounds.
+-- Laws of the schedule.
 pub mod Laws

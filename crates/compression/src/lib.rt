@@ -1,15 +1,13 @@
 // FIPS 180-4, 6.2.2: the hash value after one block of 64 bytes.
 #![tactic(auto)]
 
-ghost use Rattle.std.specs.Prelude.{◌≡◌, ◌<◌, length};
+ghost use Rattle.std.specs.Prelude.{◌≡◌, ◌<◌};
 ghost use Rattle.compression.specs.Words.{◌⊞◌, σ₀, σ₁};
-ghost use Rattle.compression.specs.Block.{word, schedule, T₁, T₂, compress};
-
-use std::num;
+ghost use Rattle.compression.specs.Block.{word, schedule, round, compress};
 
 mod words;
 
-const ROUND: [u32; 64] = [
+static ROUND: [u32; 64] = [
     0x428a2f98, 0x71374491, 0xb5c0fbcf, 0xe9b5dba5, 0x3956c25b, 0x59f111f1, 0x923f82a4, 0xab1c5ed5,
     0xd807aa98, 0x12835b01, 0x243185be, 0x550c7dc3, 0x72be5d74, 0x80deb1fe, 0x9bdc06a7, 0xc19bf174,
     0xe49b69c1, 0xefbe4786, 0x0fc19dc6, 0x240ca1cc, 0x2de92c6f, 0x4a7484aa, 0x5cb0a9dc, 0x76f988da,
@@ -20,108 +18,71 @@ const ROUND: [u32; 64] = [
     0x748f82ee, 0x78a5636f, 0x84c87814, 0x8cc70208, 0x90befffa, 0xa4506ceb, 0xbef9a3f7, 0xc67178f2,
 ];
 
-fn wide(x: u8) -> u32
-    ensures { (result ≡ x) × (result < 256) }
-{
-    x as u32
-}
-
 // The i-th word of a block.
+#[tactic(auto, unfolding(crate::specs::Block::word))]
 fn word_at(b: &[u8; 64], i: usize) -> u32
     requires { i < 16 }
     ensures { result ≡ word b.now i }
 {
     let j = i * 4;
-    wide(b[j]) * 16777216 + wide(b[j + 1]) * 65536 + wide(b[j + 2]) * 256 + wide(b[j + 3])
+    u32::from_be_bytes([b[j], b[j + 1], b[j + 2], b[j + 3]])
 }
 
 // A word of the schedule, from those 16, 15, 7 and 2 places before it.
 fn next_word(w16: u32, w15: u32, w7: u32, w2: u32) -> u32
     ensures { result ≡ σ₁ w2 ⊞ w7 ⊞ σ₀ w15 ⊞ w16 }
 {
-    num::wrapping_add_u32(
-        num::wrapping_add_u32(
-            num::wrapping_add_u32(words::lower1(w2), w7),
-            words::lower0(w15),
-        ),
-        w16,
-    )
+    words::lower1(w2)
+        .wrapping_add(w7)
+        .wrapping_add(words::lower0(w15))
+        .wrapping_add(w16)
 }
 
-// The schedule of a block.
-fn expand(b: &[u8; 64], w: &mut [u32])
-    requires { length w.old ≡ 64 }
+// The schedule of a block, in lent words: a result by value is copied twice, which is slower.
+fn expand(b: &[u8; 64], w: &mut [u32; 64])
     ensures { w.new ≡ schedule b.now 48 }
 {
-    let mut i = 0;
-    while i < 16 {
+    for i in 0..16 {
         w[i] = word_at(b, i);
-        i += 1;
     }
-    let mut n = 0;
-    while n < 48 {
+    for n in 0..48 {
         w[n + 16] = next_word(w[n], w[n + 1], w[n + 9], w[n + 14]);
-        n += 1;
     }
 }
 
-fn temp1(e: u32, f: u32, g: u32, h: u32, k: u32, w: u32) -> u32
-    ensures { result ≡ T₁ e f g h k w }
+// A round on the eight working variables.
+#[inline(always)]
+fn round(k: u32, w: u32, s: [u32; 8]) -> [u32; 8]
+    ensures { result ≡ round k w s }
 {
-    num::wrapping_add_u32(
-        num::wrapping_add_u32(
-            num::wrapping_add_u32(
-                num::wrapping_add_u32(h, words::upper1(e)),
-                words::ch(e, f, g),
-            ),
-            k,
-        ),
-        w,
-    )
-}
-
-fn temp2(a: u32, b: u32, c: u32) -> u32
-    ensures { result ≡ T₂ a b c }
-{
-    num::wrapping_add_u32(words::upper0(a), words::maj(a, b, c))
+    let [a, b, c, d, e, f, g, h] = s;
+    let t1 = h
+        .wrapping_add(words::upper1(e))
+        .wrapping_add(words::ch(e, f, g))
+        .wrapping_add(k)
+        .wrapping_add(w);
+    let t2 = words::upper0(a).wrapping_add(words::maj(a, b, c));
+    [t1.wrapping_add(t2), a, b, c, d.wrapping_add(t1), e, f, g]
 }
 
 pub fn compress(state: [u32; 8], block: &[u8; 64]) -> [u32; 8]
     ensures { result ≡ compress state block.now }
 {
-    let ks = ROUND;
     let mut ws = [0u32; 64];
     expand(block, &mut ws);
-    let mut a = state[0];
-    let mut b = state[1];
-    let mut c = state[2];
-    let mut d = state[3];
-    let mut e = state[4];
-    let mut f = state[5];
-    let mut g = state[6];
-    let mut h = state[7];
-    let mut t = 0;
-    while t < 64 {
-        let t1 = temp1(e, f, g, h, ks[t], ws[t]);
-        let t2 = temp2(a, b, c);
-        h = g;
-        g = f;
-        f = e;
-        e = num::wrapping_add_u32(d, t1);
-        d = c;
-        c = b;
-        b = a;
-        a = num::wrapping_add_u32(t1, t2);
-        t += 1;
+    let mut v = state;
+    for (k, w) in ROUND.iter().zip(&ws) {
+        v = round(*k, *w, v);
     }
+    // written out: with `array::from_fn` the proof does not close
     [
-        num::wrapping_add_u32(state[0], a),
-        num::wrapping_add_u32(state[1], b),
-        num::wrapping_add_u32(state[2], c),
-        num::wrapping_add_u32(state[3], d),
-        num::wrapping_add_u32(state[4], e),
-        num::wrapping_add_u32(state[5], f),
-        num::wrapping_add_u32(state[6], g),
-        num::wrapping_add_u32(state[7], h),
+        state[0].wrapping_add(v[0]),
+        state[1].wrapping_add(v[1]),
+        state[2].wrapping_add(v[2]),
+        state[3].wrapping_add(v[3]),
+        state[4].wrapping_add(v[4]),
+        state[5].wrapping_add(v[5]),
+        state[6].wrapping_add(v[6]),
+        state[7].wrapping_add(v[7]),
     ]
 }

@@ -1,13 +1,6 @@
-// FIPS 180-4, 4.1.2: the six functions on words of 32 bits, and the rotation that they are made of.
-ghost use Rattle.std.specs.Prelude.{◌≡◌, ◌<◌};
-ghost use Rattle.compression.specs.Words.{ROTR, Ch, Maj, Σ₀, Σ₁, σ₀, σ₁};
-
-fn rotr(x: u32, n: u32) -> u32
-    requires { (0 < n) × (n < 32) }
-    ensures { result ≡ ROTR n x }
-{
-    (x >> n) | (x << (32 - n))
-}
+// FIPS 180-4, 4.1.2: the six functions on words of 32 bits.
+ghost use Rattle.std.specs.Prelude.{◌≡◌};
+ghost use Rattle.compression.specs.Words.{Ch, Maj, Σ₀, Σ₁, σ₀, σ₁};
 
 pub fn ch(x: u32, y: u32, z: u32) -> u32
     ensures { result ≡ Ch x y z }
@@ -15,6 +8,7 @@ pub fn ch(x: u32, y: u32, z: u32) -> u32
     (x & y) ^ (!x & z)
 }
 
+#[tactic(auto, unfolding(crate::specs::Words::Maj))]
 pub fn maj(x: u32, y: u32, z: u32) -> u32
     ensures { result ≡ Maj x y z }
 {
@@ -24,23 +18,23 @@ pub fn maj(x: u32, y: u32, z: u32) -> u32
 pub fn upper0(x: u32) -> u32
     ensures { result ≡ Σ₀ x }
 {
-    rotr(x, 2) ^ rotr(x, 13) ^ rotr(x, 22)
+    x.rotate_right(2) ^ x.rotate_right(13) ^ x.rotate_right(22)
 }
 
 pub fn upper1(x: u32) -> u32
     ensures { result ≡ Σ₁ x }
 {
-    rotr(x, 6) ^ rotr(x, 11) ^ rotr(x, 25)
+    x.rotate_right(6) ^ x.rotate_right(11) ^ x.rotate_right(25)
 }
 
 pub fn lower0(x: u32) -> u32
     ensures { result ≡ σ₀ x }
 {
-    rotr(x, 7) ^ rotr(x, 18) ^ (x >> 3)
+    x.rotate_right(7) ^ x.rotate_right(18) ^ (x >> 3)
 }
 
 pub fn lower1(x: u32) -> u32
     ensures { result ≡ σ₁ x }
 {
-    rotr(x, 17) ^ rotr(x, 19) ^ (x >> 10)
+    x.rotate_right(17) ^ x.rotate_right(19) ^ (x >> 10)
 }

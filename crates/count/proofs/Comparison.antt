@@ -1,8 +1,8 @@
 -- Two processes compared, one sheet at a time.
-use Prim.Native.Nat.{ℕ, zero, suc, ◌+◌, ◌-◌, ◌≤◌, ◌<◌}
+use Prim.Native.Nat.{ℕ, zero, suc, ◌-◌, ◌≤◌, ◌<◌}
 use native.Mathlib.Nat.{not-suc-le-zero, le_of_suc-le-suc}
 use native.Mathlib.Omega.{arith}
-use mathlib.Core.Path.{◌≡◌, refl, sym, ◌∙◌}
+use mathlib.Core.Path.{◌≡◌, refl, sym, ap, ◌∙◌}
 use mathlib.Core.Bool.{false}
 use mathlib.Core.List.{List, [], ◌∷◌, map}
 use lib.Dec.{ltb}
@@ -19,30 +19,28 @@ map_at f [] m d e h = absurd (not-suc-le-zero h)
 map_at f (x ∷ xs) zero d e h = refl
 map_at f (x ∷ xs) (suc m) d e h = map_at f xs m d e (le_of_suc-le-suc h)
 
--- from the latest of so many rounds; in i of them the two are equal
-module _ (sheets : List Sheet) (rounds a b i : ℕ) (l : i < rounds) (long : rounds ≤ length sheets)
-    (same : fewer (counts_by sheets) rounds a b ≡ fewer (counts_by sheets) (rounds - i) a b) where
+-- from the latest of so many rounds on: where the two are equal in all but the first i
+module _ (sheets : List Sheet) (rounds a b i : ℕ) (some : 0 < i) (long : i ≤ length sheets)
+    (same : fewer (counts_by sheets) rounds a b ≡ fewer (counts_by sheets) i a b) where
   abbrev votes : (c : ℕ) → ℕ
-  votes c = get_or (get_or sheets (rounds - 1 - i) (record { counts = [] })).counts (c - 1) 0
+  votes c = get_or (get_or sheets (i - 1) (record { counts = [] })).counts (c - 1) 0
 
-  by_votes : fewer (counts_by sheets) rounds a b ≡ decided (votes a) (votes b) (fewer (counts_by sheets) (rounds - 1 - i) a b)
+  by_votes : fewer (counts_by sheets) rounds a b ≡ decided (votes a) (votes b) (fewer (counts_by sheets) (i - 1) a b)
   unfolding fewer
   by_votes =
-      let m : rounds - i ≡ suc (rounds - 1 - i) = omega arith in
-      let e = map_at (λ (t : Sheet). t.counts) sheets (rounds - 1 - i) (record { counts = [] }) [] (omega arith) in
-      same ∙ rw (m, e)
+      let m : i ≡ suc (i - 1) = omega arith in
+      let e = map_at (λ (t : Sheet). t.counts) sheets (i - 1) (record { counts = [] }) [] (omega arith) in
+      same ∙ ap (λ (k : ℕ). fewer (counts_by sheets) k a b) m ∙ rw e
 
-  pub fewer_more : votes a ≡ votes b → fewer (counts_by sheets) rounds a b ≡ fewer (counts_by sheets) (rounds - (i + 1)) a b
-  fewer_more e =
-      let m : rounds - (i + 1) ≡ rounds - 1 - i = omega arith in
-      rw m (by_votes ∙ decided_same (votes a) (votes b) _ e)
+  pub fewer_more : votes a ≡ votes b → fewer (counts_by sheets) rounds a b ≡ fewer (counts_by sheets) (i - 1) a b
+  fewer_more e = by_votes ∙ decided_same (votes a) (votes b) _ e
 
   pub fewer_found : (votes a ≡ votes b → ⊥) → ltb (votes a) (votes b) ≡ fewer (counts_by sheets) rounds a b
   fewer_found ne = sym (by_votes ∙ decided_differ (votes a) (votes b) _ ne)
 
-pub fewer_none : (sheets : List (List ℕ)) (rounds a b i : ℕ) → rounds ≤ i → fewer sheets (rounds - i) a b ≡ false
+pub fewer_none : (sheets : List (List ℕ)) (i a b : ℕ) → i ≤ 0 → fewer sheets i a b ≡ false
 unfolding fewer
-fewer_none sheets rounds a b i l = let z : rounds - i ≡ 0 = omega arith in rw z
+fewer_none sheets i a b l = let z : i ≡ 0 = omega arith in rw z
 
 -- the counts of n processes in so many rounds are those of all sheets
 pub on_sheets : (n rounds : ℕ) (sheets : List Sheet) (m c : ℕ) → m < rounds → rounds ≤ length sheets → c - 1 < n →

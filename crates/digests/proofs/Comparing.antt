@@ -1,34 +1,20 @@
--- Two digests compared byte by byte: what is left of them decides.
-use Prim.Native.Nat.{ℕ, ◌+◌, ◌≤◌, ◌<◌}
-use mathlib.Core.Path.{◌≡◌}
-use mathlib.Core.Bool.{true, false}
+-- The library's order of arrays of bytes is that of digests.
+use Prim.Native.Nat.{ℕ}
+use mathlib.Core.Path.{◌≡◌, refl}
+use mathlib.Core.Bool.{Bool, not}
 use mathlib.Core.List.{List}
-use native.Mathlib.Numerals.{add-one}
-use native.Mathlib.Omega.{arith}
-use lib.ListN.{length, get_or, drop, drop_of_length-le}
-use lib.Seq.{drop-cons}
-use borrow.Author.Tests.{lt-ltb, le-ltb, eq-eqb, ne_eqb}
+use Rattle.std.proofs.Common.{arith}
+use Rattle.std.proofs.lemmas.Bool.Decides.{nat_tests}
+use Rattle.std.specs.Prelude.{Some}
+use Rattle.std.specs.Ordering.{nat_cmp, is_some_and, is_le, is_lt}
+use Rattle.std.specs.Cmp.Lexicographic.{slice_partial_cmp}
+use Rattle.std.proofs.lemmas.Cmp.{same_from_slice_cmp_tested}
 use Rattle.rules.specs.Receipts.{not_above}
 
-module _ (a b : List ℕ) (i : ℕ) where
-  pub left_none : length a ≤ i → not_above (drop i a) (drop i b) ≡ true
-  unfolding not_above
-  left_none l = rw (drop_of_length-le a l)
+pub at_most : (a b : List ℕ) (r : Bool) → r ≡ is_some_and is_le (slice_partial_cmp (λ x y. Some (nat_cmp x y)) a b) → r ≡ not_above a b
+unfolding not_above
+at_most = same_from_slice_cmp_tested nat_cmp is_le not_above refl (λ _ _. refl) (λ _ _. refl) (λ x y xs ys o h. grind (arith, nat_tests))
 
-  module _ (l : i < length a) where
-    pub left_longer : length b ≤ i → not_above (drop i a) (drop i b) ≡ false
-    unfolding not_above
-    left_longer m = rw (drop-cons a i 0 l, drop_of_length-le b m)
-
-    module _ (m : i < length b) where
-      pub left_lower : get_or a i 0 < get_or b i 0 → not_above (drop i a) (drop i b) ≡ true
-      unfolding not_above
-      left_lower c = rw (drop-cons a i 0 l, drop-cons b i 0 m, lt-ltb _ _ c)
-
-      pub left_higher : get_or b i 0 < get_or a i 0 → not_above (drop i a) (drop i b) ≡ false
-      unfolding not_above
-      left_higher c = rw (drop-cons a i 0 l, drop-cons b i 0 m, le-ltb (get_or a i 0) (get_or b i 0) (omega arith), ne_eqb (get_or a i 0) (get_or b i 0) (λ e. omega arith))
-
-      pub left_equal : get_or b i 0 ≤ get_or a i 0 → get_or a i 0 ≤ get_or b i 0 → not_above (drop i a) (drop i b) ≡ not_above (drop (i + 1) a) (drop (i + 1) b)
-      unfolding not_above
-      left_equal c d = rw (drop-cons a i 0 l, drop-cons b i 0 m, le-ltb (get_or a i 0) (get_or b i 0) c, eq-eqb (get_or a i 0) (get_or b i 0) (omega arith), add-one i)
+pub less : (a b : List ℕ) (r : Bool) → r ≡ is_some_and is_lt (slice_partial_cmp (λ x y. Some (nat_cmp x y)) a b) → r ≡ not (not_above b a)
+unfolding not_above
+less = same_from_slice_cmp_tested nat_cmp is_lt (λ a b. not (not_above b a)) refl (λ _ _. refl) (λ _ _. refl) (λ x y xs ys o h. grind (arith, nat_tests))

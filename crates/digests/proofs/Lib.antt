@@ -1,4 +1,6 @@
--- Laws of digests compared, searched and entered.
+-- Laws of digests compared, listed, searched and entered.
 pub mod Comparing
-pub mod Halving
+pub mod Chunks
+pub mod Good
+pub mod Parting
 pub mod Entering

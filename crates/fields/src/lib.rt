@@ -9,78 +9,45 @@ ghost use Rattle.fields.specs.Answers.{element_at, exponent_at, count_at};
 
 use group::{Element, Exponent};
 
-// What reading an element finds: it and the place after it, or that the number is no element.
-#[derive(Clone, Copy)]
-pub enum ElementField {
-    Value(Element, usize),
-    Refused,
-}
-
-// What reading an exponent finds: it and the place after it, or that the number is not below q.
-#[derive(Clone, Copy)]
-pub enum ExponentField {
-    Value(Exponent, usize),
-    Refused,
-}
-
-// What reading a count finds: it and the place after it, or that the number is above the most that it may be.
-#[derive(Clone, Copy)]
-pub enum CountField {
-    Value(u32, usize),
-    Refused,
-}
-
 pub fn number2(s: &[u8], at: usize) -> u32
     requires { at + 2 ≤ length s.now }
     ensures { result ≡ number2 s.now at }
 {
-    numbers::byte32(s[at]) * 256 + numbers::byte32(s[at + 1])
+    u32::from(u16::from_be_bytes([s[at], s[at + 1]]))
 }
 
 pub fn number4(s: &[u8], at: usize) -> u32
     requires { at + 4 ≤ length s.now }
     ensures { result ≡ number4 s.now at }
 {
-    numbers::byte32(s[at]) * 16777216
-        + numbers::byte32(s[at + 1]) * 65536
-        + numbers::byte32(s[at + 2]) * 256
-        + numbers::byte32(s[at + 3])
+    u32::from_be_bytes([s[at], s[at + 1], s[at + 2], s[at + 3]])
 }
 
-pub fn element(s: &[u8], at: usize, p: u32, q: u32) -> ElementField
+// The element at a place and the place after it, or nothing where the number is no element.
+pub fn element(s: &[u8], at: usize, p: u32, q: u32) -> Option<(Element, usize)>
     requires { at + 4 ≤ length s.now }
     ensures { result ≡ element_at s.now at p q }
 {
     let x = Element(number4(s, at));
-    if group::is_element(p, q, x) {
-        ElementField::Value(x, at + 4)
-    } else {
-        ElementField::Refused
-    }
+    group::is_element(p, q, x).then_some((x, at + 4))
 }
 
-pub fn exponent(s: &[u8], at: usize, q: u32) -> ExponentField
+// The exponent at a place and the place after it, or nothing where the number is not below q.
+pub fn exponent(s: &[u8], at: usize, q: u32) -> Option<(Exponent, usize)>
     requires { at + 4 ≤ length s.now }
     ensures { result ≡ exponent_at s.now at q }
 {
     let x = number4(s, at);
-    if x < q {
-        ExponentField::Value(Exponent(x), at + 4)
-    } else {
-        ExponentField::Refused
-    }
+    (x < q).then_some((Exponent(x), at + 4))
 }
 
-pub fn count(s: &[u8], at: usize, most: u32) -> CountField
+// The count at a place and the place after it, or nothing where the number is above the most that it may be.
+pub fn count(s: &[u8], at: usize, most: u32) -> Option<(u32, usize)>
     requires { at + 2 ≤ length s.now }
     ensures { result ≡ count_at s.now at most }
 {
     let x = number2(s, at);
-    if x <= most {
-        CountField::Value(x, at + 2)
-    } else {
-        CountField::Refused
-    }
+    (x <= most).then_some((x, at + 2))
 }
 
 // The number at a place, taken as an element without a test.
@@ -103,7 +70,8 @@ pub fn as_exponent(s: &[u8], at: usize) -> Exponent
 fn number8(digest: &[u8; 32]) -> u64
     ensures { result ≡ number8 digest.now 0 }
 {
-    (number4(digest, 0) as u64) * 4294967296 + (number4(digest, 4) as u64)
+    let [a, b, c, d, e, f, g, h, ..] = *digest;
+    u64::from_be_bytes([a, b, c, d, e, f, g, h])
 }
 
 // A digest modulo q, a proof's challenge.
@@ -111,7 +79,7 @@ pub fn challenge(digest: &[u8; 32], q: u32) -> Exponent
     requires { 0 < q }
     ensures { result.0 ≡ number8 digest.now 0 % q }
 {
-    group::reduce_exp(number8(digest), q)
+    group::reduce(number8(digest), q)
 }
 
 // A digest modulo p, of which g1 is made.
@@ -144,7 +112,8 @@ pub fn product_besides(
     r
 }
 
-// The product of all of them.
+// The product of all of them: none has the number count.
+#[tactic(auto, using(crate::proofs::Products::prod_all))]
 pub fn product(s: &[u8], p: u32, at: usize, stride: usize, count: usize) -> Element
     requires p_nonzero { 0 < p }
     requires by_index { (j : ℕ) → j < count → at + stride * j + 4 ≤ length s.now }

@@ -8,22 +8,11 @@ ghost use Rattle.frames.specs.Framed.{Begun, Framed, BallotFramed};
 
 use rules::Refusal;
 
-// What some tests of a record find.
-#[derive(Clone, Copy)]
-pub enum Fault {
-    Sound,
-    Refused(Refusal),
-}
-
 pub fn has_mark(board: &[u8], at: usize, mark: [u8; 2]) -> bool
     requires { at + 2 ≤ length board.now }
     ensures { result ≡ has_mark board.now at mark }
 {
-    if board[at] == mark[0] {
-        board[at + 1] == mark[1]
-    } else {
-        false
-    }
+    board[at] == mark[0] && board[at + 1] == mark[1]
 }
 
 // The number of 2 bytes at a place.
@@ -31,7 +20,7 @@ pub fn number(board: &[u8], at: usize) -> usize
     requires { at + 2 ≤ length board.now }
     ensures { result ≡ number2 board.now at }
 {
-    numbers::wide32(fields::number2(board, at))
+    fields::number2(board, at) as usize
 }
 
 // The number of 1 byte at a place.
@@ -39,36 +28,33 @@ pub fn byte(board: &[u8], at: usize) -> usize
     requires { at < length board.now }
     ensures { result ≡ get_or board.now at 0 }
 {
-    numbers::wide(board[at])
+    usize::from(board[at])
 }
 
 // Any record: its length and mark.
-fn begins(board: &[u8], at: usize, size: usize, mark: [u8; 2]) -> Fault
+fn begins(board: &[u8], at: usize, size: usize, mark: [u8; 2]) -> Result<(), Refusal>
     requires { (at ≤ length board.now) × (4 ≤ size) }
     ensures { Begun board.now at size mark result }
 {
     if board.len() - at < size {
-        return Fault::Refused(Refusal::Length);
+        return Err(Refusal::Length);
     }
     if !has_mark(board, at, mark) {
-        return Fault::Refused(Refusal::Mark);
+        return Err(Refusal::Mark);
     }
-    Fault::Sound
+    Ok(())
 }
 
 // A BA or SH record: its length, mark and number.
-fn numbered(board: &[u8], at: usize, size: usize, mark: [u8; 2], due: usize) -> Fault
+fn numbered(board: &[u8], at: usize, size: usize, mark: [u8; 2], due: usize) -> Result<(), Refusal>
     requires { (at ≤ length board.now) × (4 ≤ size) }
     ensures { Framed board.now at size mark (number2 board.now (at + 2)) due result }
 {
-    let begun = begins(board, at, size, mark);
-    if let Fault::Refused(why) = begun {
-        return Fault::Refused(why);
-    }
+    begins(board, at, size, mark)?;
     if number(board, at + 2) != due {
-        return Fault::Refused(Refusal::Number);
+        return Err(Refusal::Number);
     }
-    Fault::Sound
+    Ok(())
 }
 
 // The kind of the BA record at a place; 0 where the board ends before it.
@@ -83,23 +69,26 @@ pub fn kind(board: &[u8], at: usize) -> usize
 }
 
 // A BA record: its length by its kind, mark, number and kind.
-pub fn ballot_frame(board: &[u8], at: usize, n: usize, due: usize) -> Fault
+pub fn ballot_frame(board: &[u8], at: usize, n: usize, due: usize) -> Result<(), Refusal>
     requires { (at ≤ length board.now) × (n ≤ 8) }
     ensures { BallotFramed board.now at n due result }
 {
     let kind = kind(board, at);
-    let framed = numbered(board, at, layout::ballot_length(n, kind), layout::BA, due);
-    if let Fault::Refused(why) = framed {
-        return Fault::Refused(why);
-    }
+    numbered(board, at, layout::ballot_length(n, kind), layout::BA, due)?;
     let unknown = layout::AUDITED < kind;
     if unknown {
-        return Fault::Refused(Refusal::Kind);
+        return Err(Refusal::Kind);
     }
-    Fault::Sound
+    Ok(())
 }
 
-pub fn shift_frame(board: &[u8], at: usize, n: usize, rows: usize, due: usize) -> Fault
+pub fn shift_frame(
+    board: &[u8],
+    at: usize,
+    n: usize,
+    rows: usize,
+    due: usize,
+) -> Result<(), Refusal>
     requires { (at ≤ length board.now) × (n ≤ 8) × (rows ≤ 8) }
     ensures { Framed board.now at (shift_length n rows) SH (number2 board.now (at + 2)) due result }
 {
@@ -107,16 +96,13 @@ pub fn shift_frame(board: &[u8], at: usize, n: usize, rows: usize, due: usize) -
 }
 
 // An RT record: its length, mark and round.
-pub fn sheet_frame(board: &[u8], at: usize, n: usize, round: usize) -> Fault
+pub fn sheet_frame(board: &[u8], at: usize, n: usize, round: usize) -> Result<(), Refusal>
     requires { (at ≤ length board.now) × (n ≤ 8) }
     ensures { Framed board.now at (sheet_length n) RT (get_or board.now (at + 2) 0) round result }
 {
-    let begun = begins(board, at, layout::sheet_length(n), layout::RT);
-    if let Fault::Refused(why) = begun {
-        return Fault::Refused(why);
-    }
+    begins(board, at, layout::sheet_length(n), layout::RT)?;
     if byte(board, at + 2) != round {
-        return Fault::Refused(Refusal::Number);
+        return Err(Refusal::Number);
     }
-    Fault::Sound
+    Ok(())
 }

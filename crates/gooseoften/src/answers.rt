@@ -1,13 +1,13 @@
 // The numbers of an answer, put into the slice that a program in C lends for it.
 ghost use Rattle.std.specs.Prelude.{◌≡◌, ℕ, ◌≤◌, List, [], ◌∷◌, length};
-ghost use Rattle.rules.specs.Answers.{refusal_number, answer_of, finding_of, telling_of};
-ghost use Rattle.jobs.specs.Replies.{reply_of};
+ghost use Rattle.rules.specs.Answers.{refusal_number, verdict_of, finding_of, telling_of};
+ghost use Rattle.jobs.specs.Replies.{outcome_of};
 ghost use Rattle.output.specs.Written.{written};
 ghost use Rattle.gooseoften.specs.Answers.{refusal_code, result_numbers, check_code, write_code, find_code, text_code};
-ghost use Rattle.gooseoften.specs.Puts.{record_named, ranking_named, found_named, told_named, check_put, reply_put, told_put};
+ghost use Rattle.gooseoften.specs.Puts.{record_named, ranking_named, check_put, reply_put, told_put};
 
-use jobs::Reply;
-use rules::{Answer, Found, Refusal, Told};
+use jobs::{Unwritten, Written};
+use rules::{Accepted, Refusal, Refused};
 
 fn put_one(answer: &mut [usize], x: usize)
     requires { 1 ≤ length answer.old }
@@ -50,65 +50,63 @@ fn code(refusal: Refusal, place: usize) -> usize
 }
 
 // What check answered: its code is returned, and the result of an accepted board is put into the answer.
-pub fn put_verdict(answer: &mut [usize], verdict: Answer, order: [u8; 8]) -> usize
+pub fn put_verdict(answer: &mut [usize], verdict: Result<Accepted, Refused>) -> usize
     requires in_bounds { 10 ≤ length answer.old }
     requires verdict_bound { record_named verdict ≤ 7008 }
-    ensures value { result ≡ check_code (answer_of verdict order) }
-    ensures answer_after { answer.new ≡ check_put verdict order answer.old }
+    ensures value { result ≡ check_code (verdict_of verdict) }
+    ensures answer_after { answer.new ≡ check_put verdict answer.old }
 {
     match verdict {
-        Answer::Accepted { rounds, winner } => {
-            put_result(answer, rounds, winner, order);
+        Ok(accepted) => {
+            let order = accepted.order;
+            put_result(answer, accepted.rounds, accepted.winner, order);
             0
         }
-        Answer::Refused { refusal, record } => code(refusal, record),
+        Err(Refused { refusal, record }) => code(refusal, record),
     }
 }
 
 // What write replied.
-pub fn put_reply(answer: &mut [usize], reply: Reply, order: [u8; 8]) -> usize
+pub fn put_reply(answer: &mut [usize], reply: Result<Written, Unwritten>) -> usize
     requires in_bounds { 11 ≤ length answer.old }
     requires reply_bound { ranking_named reply ≤ 7008 }
-    ensures value { result ≡ write_code (reply_of reply order) }
-    ensures answer_after { answer.new ≡ reply_put reply order answer.old }
+    ensures value { result ≡ write_code (outcome_of reply) }
+    ensures answer_after { answer.new ≡ reply_put reply answer.old }
 {
     match reply {
-        Reply::Board {
-            length,
-            rounds,
-            winner,
-        } => {
-            put_result(answer, rounds, winner, order);
-            put_one(&mut answer[10..], length);
+        Ok(written) => {
+            let order = written.order;
+            put_result(answer, written.rounds, written.winner, order);
+            put_one(&mut answer[10..], written.length);
             0
         }
-        Reply::Refused { refusal, ranking } => code(refusal, ranking),
+        Err(unwritten) => code(unwritten.refusal, unwritten.ranking),
     }
 }
 
 // What find answered: its code, whatever the numbers in the list.
-pub fn found_code(answer: Found) -> usize
-    requires { found_named answer ≤ 7008 }
+pub fn found_code(answer: Result<(), Refused>) -> usize
+    requires { record_named answer ≤ 7008 }
     ensures { (numbers : List ℕ) → result ≡ find_code (finding_of answer numbers) }
 {
     match answer {
-        Found::Listed => 0,
-        Found::Refused { refusal, record } => code(refusal, record),
+        Ok(()) => 0,
+        Err(refused) => code(refused.refusal, refused.record),
     }
 }
 
 // What text answered: its code, whatever the text, and the text's length is put into the answer.
-pub fn put_told(answer: &mut [usize], told: Told) -> usize
+pub fn put_told(answer: &mut [usize], told: Result<usize, Refused>) -> usize
     requires in_bounds { 1 ≤ length answer.old }
-    requires told_bound { told_named told ≤ 7008 }
+    requires told_bound { record_named told ≤ 7008 }
     ensures by_index { (out : List ℕ) → result ≡ text_code (telling_of told out) }
     ensures answer_after { answer.new ≡ told_put told answer.old }
 {
     match told {
-        Told::Text { length } => {
+        Ok(length) => {
             put_one(answer, length);
             0
         }
-        Told::Refused { refusal, record } => code(refusal, record),
+        Err(refused) => code(refused.refusal, refused.record),
     }
 }

@@ -20,10 +20,7 @@ pub extern "C" fn gooseoften_check(board: &[u8], answer: &mut [usize; 10]) -> us
     ensures value { result ≡ check_code (check_board sha256 board.now) }
     ensures answer_after { answer.new ≡ check_answer (check_board sha256 board.now) answer.old }
 {
-    let checked = checker::check(board);
-    let verdict = checked.answer;
-    let order = checked.order;
-    answers::put_verdict(answer, verdict, order)
+    answers::put_verdict(answer, checker::check(board))
 }
 
 // The verdict on a board for the screen in the council room.
@@ -32,10 +29,7 @@ pub extern "C" fn gooseoften_check_small(board: &[u8], answer: &mut [usize; 10])
     ensures value { result ≡ check_code (check_small sha256 board.now) }
     ensures answer_after { answer.new ≡ check_answer (check_small sha256 board.now) answer.old }
 {
-    let checked = checker::check_small(board);
-    let verdict = checked.answer;
-    let order = checked.order;
-    answers::put_verdict(answer, verdict, order)
+    answers::put_verdict(answer, checker::check_small(board))
 }
 
 // The board of a job, written into out.
@@ -66,10 +60,10 @@ pub extern "C" fn gooseoften_write(
         g0: Element(g0),
         counter,
     };
-    let written = writer::write(job, label, rankings, kinds, draws, out);
-    let reply = written.reply;
-    let order = written.order;
-    answers::put_reply(answer, reply, order)
+    answers::put_reply(
+        answer,
+        writer::write(job, label, rankings, kinds, draws, out),
+    )
 }
 
 // The ballot numbers of digests, written to the front of found.
@@ -78,8 +72,7 @@ pub extern "C" fn gooseoften_find(board: &[u8], digests: &[u8], found: &mut [u16
     ensures value { result ≡ find_code (find_outcome sha256 board.now digests.now (length found.old)) }
     ensures found_after { found.new ≡ list_after (find_outcome sha256 board.now digests.now (length found.old)) found.old }
 {
-    let answer = receipts::find(board, digests, found);
-    answers::found_code(answer)
+    answers::found_code(receipts::find(board, digests, found))
 }
 
 // The count of a board in sentences, with the names of its processes, written into out.
@@ -94,6 +87,5 @@ pub extern "C" fn gooseoften_text(
     ensures answer_after { answer.new ≡ text_answer (text_outcome sha256 board.now names.now (length out.old)) answer.old }
     ensures out_after { out.new ≡ output_after (text_outcome sha256 board.now names.now (length out.old)) out.old }
 {
-    let told = notice::text(board, names, out);
-    answers::put_told(answer, told)
+    answers::put_told(answer, notice::text(board, names, out))
 }

@@ -19,12 +19,6 @@ pub struct Head {
     pub setup: Setup,
 }
 
-#[derive(Clone, Copy)]
-pub enum HeaderRead {
-    Board(Head),
-    Refused(Refusal),
-}
-
 // p, q, g0 and g1 as the record shows them.
 fn shown(board: &[u8]) -> Group
     requires { header_length ≤ length board.now }
@@ -39,34 +33,33 @@ fn shown(board: &[u8]) -> Group
 }
 
 // The record that a board of a model starts with.
-pub fn read_header(board: &[u8], model: Model) -> HeaderRead
+pub fn read_header(board: &[u8], model: Model) -> Result<Head, Refusal>
     ensures { HeaderReads model board.now result }
 {
-    let mark = model.mark;
     if board.len() < layout::HEADER_LENGTH {
-        return HeaderRead::Refused(Refusal::Length);
+        return Err(Refusal::Length);
     }
-    if !frames::has_mark(board, 0, mark) {
-        return HeaderRead::Refused(Refusal::Mark);
+    if !frames::has_mark(board, 0, model.mark) {
+        return Err(Refusal::Mark);
     }
     let n = frames::byte(board, 2);
     let k = frames::number(board, 3);
     let group = shown(board);
     if !parameters::sizes_good(model, n, k) {
-        return HeaderRead::Refused(Refusal::Sizes);
+        return Err(Refusal::Sizes);
     }
     let few = parameters::limits_good(model, n, k);
     let ordered = parameters::orders_good(n, k, group.p, group.q);
     if !few {
-        return HeaderRead::Refused(Refusal::Limits);
+        return Err(Refusal::Limits);
     }
     if !ordered {
-        return HeaderRead::Refused(Refusal::Orders);
+        return Err(Refusal::Orders);
     }
     if !parameters::generators_good(&board[22..layout::HEADER_LENGTH], board[17], group) {
-        return HeaderRead::Refused(Refusal::Generators);
+        return Err(Refusal::Generators);
     }
-    HeaderRead::Board(Head {
+    Ok(Head {
         n,
         k,
         setup: Setup::new(group),

@@ -1,21 +1,14 @@
 -- What is known of a frame that was read.
-use Rattle.std.specs.Prelude.{ℕ, ◌+◌, ◌%◌, ◌≤◌, List, length}
+use Rattle.std.specs.Prelude.{ℕ, ◌+◌, ◌%◌, ◌≤◌, List, length, Option, Some, None}
 use Rattle.rules.specs.Bytes.{number4}
 use Rattle.job_cases.specs.declared.frame.Numbers.{Numbers}
 use Rattle.job_cases.specs.declared.frame.Ends.{Ends}
-use Rattle.job_cases.specs.declared.frame.Frame.{Frame}
-use Rattle.job_cases.specs.declared.frame.Frame.TheVariants as F
 
 -- the numbers of a frame, 4 bytes each, behind its name
 abbrev pub numbers_at : (s : List ℕ) (at : ℕ) → Numbers
 numbers_at s at =
     record {
-      n = number4 s at;
-      k = number4 s (at + 4);
-      p = number4 s (at + 8);
-      q = number4 s (at + 12);
-      g0 = number4 s (at + 16);
-      counter = number4 s (at + 20) % 256;
+      job = record { n = number4 s at; k = number4 s (at + 4); p = number4 s (at + 8); q = number4 s (at + 12); g0 = record { 0 = number4 s (at + 16) }; counter = number4 s (at + 20) % 256 };
       length = number4 s (at + 24);
     }
 
@@ -28,6 +21,6 @@ pub record Within (s : List ℕ) (at : ℕ) (e : Ends) : Type 0 where
   pub drawn : e.kinds + 4 ≤ e.draws
   pub ended : e.draws ≤ length s
 
-unfoldable pub FrameReads : (s : List ℕ) (at : ℕ) → Frame → Type 0
-FrameReads s at (F.Job e) = Within s at e
-FrameReads s at F.Missing = Unit
+unfoldable pub FrameReads : (s : List ℕ) (at : ℕ) → Option Ends → Type 0
+FrameReads s at (Some e) = Within s at e
+FrameReads s at None = Unit

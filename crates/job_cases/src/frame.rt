@@ -3,7 +3,7 @@ ghost use Rattle.std.specs.Prelude.{◌≡◌, ◌+◌, ◌≤◌, length};
 ghost use Rattle.job_cases.specs.Frames.{FrameReads, numbers_at};
 
 use testing::input;
-use testing::input::Piece;
+use validity::Job;
 
 // Where the pieces of a frame end.
 #[derive(Clone, Copy)]
@@ -15,21 +15,10 @@ pub struct Ends {
     pub draws: usize,
 }
 
-#[derive(Clone, Copy)]
-pub enum Frame {
-    Job(Ends),
-    Missing,
-}
-
 // The numbers of a frame: those of a job, and the length of its output.
 #[derive(Clone, Copy)]
 pub struct Numbers {
-    pub n: usize,
-    pub k: usize,
-    pub p: u32,
-    pub q: u32,
-    pub g0: u32,
-    pub counter: u8,
+    pub job: Job,
     pub length: usize,
 }
 
@@ -38,41 +27,32 @@ pub fn numbers_at(s: &[u8], at: usize) -> Numbers
     requires { at + 28 ≤ length s.now }
     ensures { result ≡ numbers_at s.now at }
 {
-    Numbers {
-        n: numbers::wide32(fields::number4(s, at)),
-        k: numbers::wide32(fields::number4(s, at + 4)),
+    let job = Job {
+        n: fields::number4(s, at) as usize,
+        k: fields::number4(s, at + 4) as usize,
         p: fields::number4(s, at + 8),
         q: fields::number4(s, at + 12),
-        g0: fields::number4(s, at + 16),
+        g0: fields::as_element(s, at + 16),
         counter: (fields::number4(s, at + 20) % 256) as u8,
-        length: numbers::wide32(fields::number4(s, at + 24)),
-    }
+    };
+    let length = fields::number4(s, at + 24) as usize;
+    Numbers { job, length }
 }
 
-// The frame at a place.
+// The frame at a place; none where a piece is cut off.
 #[tactic(auto, unfolding(crate::specs::Frames::FrameReads))]
-pub fn read(s: &[u8], at: usize) -> Frame
+pub fn read(s: &[u8], at: usize) -> Option<Ends>
     ensures { FrameReads s.now at result }
 {
-    let Piece::Bytes(_, name) = input::piece_at(s, at) else {
-        return Frame::Missing;
-    };
+    let (_, name) = input::piece_at(s, at)?;
     if s.len() - name < 28 {
-        return Frame::Missing;
+        return None;
     }
-    let Piece::Bytes(_, label) = input::piece_at(s, name + 28) else {
-        return Frame::Missing;
-    };
-    let Piece::Bytes(_, rankings) = input::piece_at(s, label) else {
-        return Frame::Missing;
-    };
-    let Piece::Bytes(_, kinds) = input::piece_at(s, rankings) else {
-        return Frame::Missing;
-    };
-    let Piece::Bytes(_, draws) = input::piece_at(s, kinds) else {
-        return Frame::Missing;
-    };
-    Frame::Job(Ends {
+    let (_, label) = input::piece_at(s, name + 28)?;
+    let (_, rankings) = input::piece_at(s, label)?;
+    let (_, kinds) = input::piece_at(s, rankings)?;
+    let (_, draws) = input::piece_at(s, kinds)?;
+    Some(Ends {
         name,
         label,
         rankings,

@@ -8,9 +8,9 @@ ghost use Rattle.std.specs.Prelude.{◌≡◌, ◌≤◌, length, take};
 ghost use Rattle.sha256.specs.Message.{sha256};
 ghost use Rattle.job_cases.specs.Frames.{Within};
 
-use frame::{Ends, Frame, Numbers};
-use group::Element;
-use jobs::Reply;
+use frame::{Ends, Numbers};
+use jobs::{Unwritten, Written};
+use rules::Accepted;
 use testing::{input, output, print};
 use validity::Job;
 
@@ -18,32 +18,32 @@ use validity::Job;
 fn digest_of(out: &[u8], size: usize) -> [u8; 32]
     ensures { size ≤ length out.now → result ≡ sha256 (take size out.now) }
 {
-    if out.len() < size {
-        return [0u8; 32];
+    match out.get(..size) {
+        Some(written) => sha256::digest(written),
+        None => [0u8; 32],
     }
-    sha256::digest(&out[0..size])
 }
 
-fn print_reply(rt: &impl Print, reply: Reply, order: [u8; 8], out: &[u8]) {
+// What write replied, beside the output at whose front the board stands.
+fn print_reply(rt: &impl Print, reply: Result<Written, Unwritten>, out: &[u8]) {
     match reply {
-        Reply::Board {
-            length,
-            rounds,
-            winner,
-        } => {
-            print::text(rt, b" written ");
-            print::number(rt, length);
-            print::text(rt, b" ");
+        Ok(written) => {
+            let length = written.length;
+            let order = written.order;
+            let accepted = Accepted {
+                rounds: written.rounds,
+                winner: written.winner,
+                order,
+            };
+            let _ = print!(rt; " written {length} ");
             print::digest(rt, digest_of(out, length));
-            print::text(rt, b" ");
-            print::result(rt, rounds, order, winner);
-            print::text(rt, b", rest ");
+            let _ = rt.print(" ");
+            print::result(rt, accepted);
+            let _ = rt.print(", rest ");
             print::kept(rt, output::kept(out, length));
         }
-        Reply::Refused { refusal, ranking } => {
-            print::text(rt, b" ");
-            print::refused(rt, refusal, ranking);
-            print::text(rt, b", output ");
+        Err(unwritten) => {
+            let _ = print!(rt; " {unwritten}, output ");
             print::kept(rt, output::kept(out, 0));
         }
     }
@@ -62,21 +62,8 @@ fn write(
 )
     requires { size ≤ length out.old }
 {
-    let written = writer::write(job, label, rankings, kinds, draws, &mut out[0..size]);
-    let reply = written.reply;
-    let order = written.order;
-    print_reply(rt, reply, order, out);
-}
-
-fn job_of(numbers: Numbers) -> Job {
-    Job {
-        n: numbers.n,
-        k: numbers.k,
-        p: numbers.p,
-        q: numbers.q,
-        g0: Element(numbers.g0),
-        counter: numbers.counter,
-    }
+    let reply = writer::write(job, label, rankings, kinds, draws, &mut out[0..size]);
+    print_reply(rt, reply, out);
 }
 
 // Writes a job, its draws given as bytes, and prints its line; false where draws or output are too long for this program.
@@ -91,10 +78,7 @@ fn answer(
 ) -> bool {
     let count = bytes.len() / 4;
     let length = numbers.length;
-    if buffers::DRAWS < count {
-        return false;
-    }
-    if buffers::ROOM < length {
+    if buffers::DRAWS < count || buffers::ROOM < length {
         return false;
     }
     let draws = buffers::draws_of(bytes);
@@ -103,7 +87,7 @@ fn answer(
     print::text(rt, name);
     write(
         rt,
-        job_of(numbers),
+        numbers.job,
         label,
         rankings,
         kinds,
@@ -118,11 +102,13 @@ fn answer(
 fn answer_at(rt: &impl Print, input: &[u8], at: usize, ends: Ends) -> bool
     requires { Within input.now at ends }
 {
-    let name = ends.name;
-    let label = ends.label;
-    let rankings = ends.rankings;
-    let kinds = ends.kinds;
-    let draws = ends.draws;
+    let Ends {
+        name,
+        label,
+        rankings,
+        kinds,
+        draws,
+    } = ends;
     answer(
         rt,
         &input[at + 4..name],
@@ -138,7 +124,7 @@ fn answer_at(rt: &impl Print, input: &[u8], at: usize, ends: Ends) -> bool
 fn run(rt: &impl Print, input: &[u8]) {
     let mut at = 0;
     while at < input.len() {
-        let Frame::Job(ends) = frame::read(input, at) else {
+        let Some(ends) = frame::read(input, at) else {
             print::bad_input(rt);
             return;
         };

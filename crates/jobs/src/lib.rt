@@ -2,24 +2,29 @@
 #![tactic(auto)]
 
 use rules::Refusal;
+use std::fmt;
 
-#[derive(Clone, Copy)]
-pub enum Reply {
-    Board {
-        length: usize,
-        rounds: usize,
-        winner: usize,
-    },
-    // ranking: with 13 the first bad one from 1, else 0.
-    Refused {
-        refusal: Refusal,
-        ranking: usize,
-    },
-}
-
-// The reply, and beside it the order of going out with zeros up to 8.
+// The board's length, and its result with the order of going out, zeros up to 8.
 #[derive(Clone, Copy)]
 pub struct Written {
-    pub reply: Reply,
+    pub length: usize,
+    pub rounds: usize,
+    pub winner: usize,
     pub order: [u8; 8],
+}
+
+// Why no board is written; ranking: with 13 the first bad one from 1, else 0.
+#[derive(Clone, Copy)]
+pub struct Unwritten {
+    pub refusal: Refusal,
+    pub ranking: usize,
+}
+
+// As it is printed: the number, and the ranking.
+impl fmt::Display for Unwritten {
+    fn fmt<W: fmt::Write>(&self, f: &mut fmt::Formatter<W>) -> fmt::Result {
+        let number = rules::refusal_number(self.refusal);
+        let ranking = self.ranking;
+        write!(f, "refused {number} {ranking}")
+    }
 }

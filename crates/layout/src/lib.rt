@@ -7,17 +7,17 @@ ghost use Rattle.rules.specs.Header.{ranked, small};
 
 use rules::Model;
 
-pub const HF: [u8; 2] = [72, 70];
+pub const HF: [u8; 2] = *b"HF";
 
-pub const BA: [u8; 2] = [66, 65];
+pub const BA: [u8; 2] = *b"BA";
 
-pub const SH: [u8; 2] = [83, 72];
+pub const SH: [u8; 2] = *b"SH";
 
-pub const RT: [u8; 2] = [82, 84];
+pub const RT: [u8; 2] = *b"RT";
 
 pub const HEADER_LENGTH: usize = 54;
 
-// The kinds of ballots.
+// The kinds of ballots. A kind stays a number, the byte of a board: each other number is a kind too, and has its length below.
 pub const COUNTED: usize = 0;
 
 pub const AUDITED: usize = 1;
@@ -41,14 +41,13 @@ pub fn small() -> Model
     ensures { result ≡ small }
 {
     Model {
-        mark: HF,
-        least: 2,
-        most: 8,
-        ballots: 1000,
         shows: 5,
         stores: 200,
+        ..ranked()
     }
 }
+
+// The lengths. The processes n are a bare number: a header and a job each hold one, and a struct for n ≤ 8 would be made for each call alone.
 
 // Of a counted BA.
 pub fn counted_length(n: usize) -> usize
@@ -72,9 +71,10 @@ pub fn ballot_length(n: usize, kind: usize) -> usize
     ensures { (result ≡ ballot_length n kind) × (result ≤ 10000) }
 {
     if kind == AUDITED {
-        return counted_length(n) + audit_length(n);
+        counted_length(n) + audit_length(n)
+    } else {
+        counted_length(n)
     }
-    counted_length(n)
 }
 
 pub fn shift_length(n: usize, rows: usize) -> usize
@@ -93,16 +93,11 @@ pub fn sheet_length(n: usize) -> usize
 }
 
 // How many records a ballot of a kind has in round m, from 0; an audited one has no SH.
+#[tactic(auto, unfolding(rules::specs::Records::records_of))]
 pub fn records_of(kind: usize, m: usize) -> usize
     ensures { (result ≡ records_of kind m) × (result ≤ 1) }
 {
-    if m == 0 {
-        return 1;
-    }
-    if kind == COUNTED {
-        return 1;
-    }
-    0
+    if m == 0 || kind == COUNTED { 1 } else { 0 }
 }
 
 // Where the pairs of a ballot's record in round m start, the record standing at a place.
@@ -110,22 +105,20 @@ pub fn pairs_from(m: usize, at: usize) -> usize
     requires { at < 2 ^ 63 }
     ensures { result ≡ pairs_from m at }
 {
-    if m == 0 {
-        return at + 5;
-    }
-    at + 4
+    if m == 0 { at + 5 } else { at + 4 }
 }
 
 // The length of what it has there.
+#[tactic(auto, unfolding(rules::specs::Records::record_length))]
 pub fn record_length(n: usize, kind: usize, m: usize) -> usize
     requires { (n ≤ 8) × (m < n) }
     ensures { (result ≡ record_length n kind m) × (result ≤ 10000) }
 {
     if m == 0 {
-        return ballot_length(n, kind);
+        ballot_length(n, kind)
+    } else if kind == COUNTED {
+        shift_length(n, n - m)
+    } else {
+        0
     }
-    if kind == COUNTED {
-        return shift_length(n, n - m);
-    }
-    0
 }

@@ -1,37 +1,40 @@
--- Two names compared byte by byte: what is left of them decides.
-use Prim.Native.Nat.{ℕ, ◌+◌, ◌≤◌, ◌<◌}
-use mathlib.Core.Path.{◌≡◌}
-use mathlib.Core.Bool.{false}
-use mathlib.Core.List.{List}
-use native.Mathlib.Numerals.{add-one}
+-- Two names compared by `==`, and names tested from the first on.
+use Prim.Native.Nat.{ℕ, zero, suc, ◌+◌}
+use mathlib.Core.Path.{◌≡◌, refl, sym, subst, ◌∙◌}
+use mathlib.Core.Bool.{Bool, true, false, ◌&&◌}
+use mathlib.Core.List.{List, [], ◌∷◌}
+use native.Mathlib.Nat.{add-zero, zero-add}
 use native.Mathlib.Omega.{arith}
-use lib.Dec.{leb}
-use lib.ListN.{length, get_or, drop, drop_of_length-le}
-use lib.Seq.{drop-cons}
-use borrow.Author.Tests.{eq-eqb, ne_eqb, leb-true, leb-false}
-use Rattle.numbers.proofs.Tests.{by_cases}
+use Rattle.std.specs.Bool.{then_some}
+use Rattle.std.specs.Prelude.{is_some}
+use Rattle.std.specs.List.{list_all, range_with_len}
+use Rattle.std.specs.Str.{bytes_eq}
+use Rattle.numbers.specs.Below.{all_below}
+use Rattle.numbers.proofs.Tests.{all_add, all_same}
 use Rattle.rules.specs.Receipts.{same}
 
-module _ (a b : List ℕ) (i : ℕ) where
-  -- a is at its end: b is too, or not
-  pub left_none : length a ≡ i → i ≤ length b → same (drop i a) (drop i b) ≡ leb (length b) (length a)
-  unfolding same
-  left_none l m =
-      let end : length a ≤ i = omega arith in
-      by_cases (leb (length b) (length a))
-      (λ t. let past : length b ≤ i = omega (arith, leb-true (length b) (length a) t) in rw (t, drop_of_length-le a end, drop_of_length-le b past))
-      (λ t. let more : i < length b = omega (arith, leb-false (length b) (length a) t) in rw (t, drop_of_length-le a end, drop-cons b i 0 more))
+pub same_is : (a b : List ℕ) → bytes_eq a b ≡ same a b
+unfolding same
+same_is [] [] = refl
+same_is [] (y ∷ b) = refl
+same_is (x ∷ a) [] = refl
+same_is (x ∷ a) (y ∷ b) = rw (same_is a b)
 
-  module _ (l : i < length a) where
-    pub left_longer : length b ≤ i → same (drop i a) (drop i b) ≡ false
-    unfolding same
-    left_longer m = rw (drop-cons a i 0 l, drop_of_length-le b m)
+all_first : (n : ℕ) (f : ℕ → Bool) → all_below (suc n) f ≡ (f 0 && all_below n (λ j. f (1 + j)))
+unfolding all_below
+all_first n f = let e : 1 + n ≡ suc n = omega arith in subst (λ (k : ℕ). all_below k f ≡ (f 0 && all_below n (λ j. f (1 + j)))) e (all_add 1 n f)
 
-    module _ (m : i < length b) where
-      pub left_other : (get_or a i 0 ≡ get_or b i 0 → ⊥) → same (drop i a) (drop i b) ≡ false
-      unfolding same
-      left_other ne = rw (drop-cons a i 0 l, drop-cons b i 0 m, ne_eqb _ _ ne)
+all_from : (a n : ℕ) (f : ℕ → Bool) → list_all f (range_with_len a n) ≡ all_below n (λ j. f (a + j))
+unfolding all_below
+all_from a zero f = refl
+all_from a (suc n) f =
+    let shift : all_below n (λ j. f (a + 1 + j)) ≡ all_below n (λ j. f (a + (1 + j))) = all_same n _ _ (λ i l. let e : a + 1 + i ≡ a + (1 + i) = omega arith in rw e) in
+    let first : f (a + 0) ≡ f a = rw add-zero in
+    rw (all_from (a + 1) n f, shift) (sym (all_first n (λ j. f (a + j)) ∙ rw first))
 
-      pub left_equal : get_or a i 0 ≡ get_or b i 0 → same (drop i a) (drop i b) ≡ same (drop (i + 1) a) (drop (i + 1) b)
-      unfolding same
-      left_equal e = rw (drop-cons a i 0 l, drop-cons b i 0 m, eq-eqb _ _ e, add-one i)
+pub all_range : (n : ℕ) (f : ℕ → Bool) → list_all f (range_with_len 0 n) ≡ all_below n f
+all_range n f = all_from 0 n f ∙ all_same n (λ j. f (0 + j)) f (λ i l. rw zero-add)
+
+pub some_if : {X : Type 0} (b : Bool) (x : X) → is_some (then_some b x) ≡ b
+some_if true x = refl
+some_if false x = refl

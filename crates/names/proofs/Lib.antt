@@ -1,3 +1,4 @@
 -- Laws that the proofs of `names` cite.
+pub mod Counting
 pub mod Starting
 pub mod Comparing

@@ -1,7 +1,7 @@
 -- The starts of names, one more at a time.
 use Prim.Native.Nat.{ℕ, ◌+◌, ◌≤◌, ◌<◌}
-use mathlib.Core.Path.{◌≡◌, sym, ◌∙◌}
-use mathlib.Core.Bool.{true, false, not, true≢false, and-false}
+use mathlib.Core.Path.{◌≡◌, ◌∙◌}
+use mathlib.Core.Bool.{true, false, not, and-false}
 use mathlib.Core.List.{List}
 use native.Mathlib.Numerals.{add-one}
 use native.Mathlib.Omega.{arith}
@@ -14,8 +14,7 @@ use Rattle.numbers.specs.Below.{all_below}
 use Rattle.rules.specs.Receipts.{same}
 use Rattle.rules.specs.Notice.{name_from, name_length, name_of, name_fits, names_good}
 use Rattle.rules.proofs.Names.{name_long, name_fits_lem}
-use Rattle.names.specs.declared.Names.{Names}
-use Rattle.names.specs.Lent.{Started, NamesTold}
+use Rattle.names.specs.Lent.{Started}
 
 pub next_start : (lent : List ℕ) (i : ℕ) → name_from lent (i + 1) ≡ name_from lent i + name_length lent i + 1
 unfolding name_from
@@ -55,11 +54,6 @@ name_is lent i a k e f = rw (e, f)
 pub name_few : (lent starts : List ℕ) (n i : ℕ) → Started lent n starts → i < n → length (name_of lent i) ≤ 20
 name_few lent starts n i w l = rw (name_long lent i) (name_fits_lem lent i (w.fit i l)).few
 
--- fewer names
-pub started_fewer : (lent starts : List ℕ) (n k : ℕ) → Started lent n starts → k ≤ n → Started lent k starts
-started_fewer lent starts n k w l =
-    record { long = w.long; few = omega (arith, w.few); at = λ i b. w.at i (omega arith); fit = λ i b. w.fit i (omega arith) }
-
 -- ---- whether n names are good
 module _ (lent : List ℕ) (n : ℕ) where
   pub not_fitting : (i : ℕ) → i < n → name_fits lent i ≡ false → names_good lent n ≡ false
@@ -74,6 +68,3 @@ module _ (lent : List ℕ) (n : ℕ) where
       names_good lent n ≡ all_below n (λ i. all_below i (λ j. not (same (name_of lent i) (name_of lent j))))
   unfolding names_good
   good_if_different starts w e = rw (all_true n (name_fits lent) w.fit, eq-eqb (name_from lent n) (length lent) e)
-
-  pub told_bad : (names : Names) → names.good ≡ false → names_good lent n ≡ false → NamesTold lent n names
-  told_bad names e h = record { tested = e ∙ sym h; started = λ t. absurd (true≢false (sym t ∙ e)) }

@@ -1,7 +1,6 @@
 -- The names that are lent, and where each starts.
 use Rattle.std.specs.Prelude.{ℕ, ◌≤◌, ◌<◌, ◌≡◌, true, List, length, get_or}
-use Rattle.rules.specs.Notice.{name_from, name_fits, names_good}
-use Rattle.names.specs.declared.Names.{Names}
+use Rattle.rules.specs.Notice.{name_from, name_fits}
 
 -- the first n names fit, and their starts are known, and the place past the last
 pub record Started (lent : List ℕ) (n : ℕ) (starts : List ℕ) : Type 0 where
@@ -9,8 +8,3 @@ pub record Started (lent : List ℕ) (n : ℕ) (starts : List ℕ) : Type 0 wher
   pub few : n ≤ 8
   pub at : (i : ℕ) → i ≤ n → get_or starts i 0 ≡ name_from lent i
   pub fit : (i : ℕ) → i < n → name_fits lent i ≡ true
-
--- whether n names are good, and then where they start
-pub record NamesTold (lent : List ℕ) (n : ℕ) (names : Names) : Type 0 where
-  pub tested : names.good ≡ names_good lent n
-  pub started : names.good ≡ true → Started lent n names.starts

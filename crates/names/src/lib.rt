@@ -1,47 +1,28 @@
 // The names of processes as they are lent: each is 1 to 20 letters with a line feed after it.
 #![tactic(auto)]
 
-ghost use Rattle.std.specs.Prelude.{◌≡◌, false, not, ◌&&◌, ◌+◌, ◌≤◌, leb, eqb, length, get_or};
+ghost use Rattle.std.specs.Prelude.{◌≡◌, not, ◌&&◌, ◌+◌, ◌≤◌, ◌<◌, leb, eqb, length, get_or, is_some, IfSome};
 ghost use Rattle.numbers.specs.Below.{all_below};
 ghost use Rattle.rules.specs.Receipts.{same};
-ghost use Rattle.rules.specs.Notice.{is_letter, letters_at, name_of};
-ghost use Rattle.names.specs.Lent.{Started, NamesTold};
+ghost use Rattle.rules.specs.Notice.{letters_of, name_of, names_good};
+ghost use Rattle.names.specs.Lent.{Started};
 
-// Whether names are good, and where the name of each process starts, and past the line feed after the last.
+// Names that fit, and where the name of each process starts, and past the line feed after the last; room for 8, since nothing is allocated.
 #[derive(Clone, Copy)]
-pub struct Names {
-    pub good: bool,
+pub struct Names<'a> {
+    pub lent: &'a [u8],
+    pub count: usize,
     pub starts: [usize; 9],
+    pub ghost started: { Started lent.now count starts },
 }
 
-fn is_letter(x: u8) -> bool
-    ensures { result ≡ is_letter x }
+// How many letters stand at the front.
+fn letters(s: &[u8]) -> usize
+    ensures { (result ≡ letters_of s.now) × (result ≤ length s.now) }
 {
-    if x < 65 {
-        return false;
-    }
-    if x <= 90 {
-        return true;
-    }
-    if x < 97 {
-        return false;
-    }
-    x <= 122
-}
-
-// How many letters stand at a place.
-fn letters_at(lent: &[u8], at: usize) -> usize
-    requires { at ≤ length lent.now }
-    ensures { (result ≡ letters_at lent.now at) × (at + result ≤ length lent.now) }
-{
-    let mut i = at;
-    while i < lent.len() {
-        if !is_letter(lent[i]) {
-            return i - at;
-        }
-        i += 1;
-    }
-    i - at
+    s.iter()
+        .position(|x| !x.is_ascii_alphabetic())
+        .unwrap_or(s.len())
 }
 
 // Whether so many letters at a place are a name with a line feed after it.
@@ -49,96 +30,60 @@ fn fits(lent: &[u8], at: usize, letters: usize) -> bool
     requires { at + letters ≤ length lent.now }
     ensures { result ≡ (leb 1 letters && leb letters 20 && eqb (get_or lent.now (at + letters) 0) 10) }
 {
-    if letters < 1 {
-        return false;
-    }
-    if 20 < letters {
-        return false;
-    }
-    if lent.len() <= at + letters {
-        return false;
-    }
-    lent[at + letters] == 10
+    1 <= letters && letters <= 20 && at + letters < lent.len() && lent[at + letters] == 10
 }
 
-// Whether two names are the same, byte for byte.
-fn same(a: &[u8], b: &[u8]) -> bool
-    ensures { result ≡ same a.now b.now }
-{
-    for i in 0..a.len() {
-        if b.len() <= i {
-            return false;
-        }
-        if a[i] != b[i] {
-            return false;
-        }
+impl<'a> Names<'a> {
+    // The name of process i + 1.
+    pub fn name(&self, i: usize) -> &'a [u8]
+        requires { i < self.now.count }
+        ensures { result.now ≡ name_of self.now.lent.now i }
+    {
+        let start = self.starts[i];
+        let end = self.starts[i + 1] - 1;
+        &self.lent[start..end]
     }
-    b.len() <= a.len()
-}
 
-// The name of process i + 1.
-pub fn name<'a>(lent: &'a [u8], starts: [usize; 9], i: usize) -> &'a [u8]
-    requires { Started lent.now (i + 1) starts }
-    ensures { result.now ≡ name_of lent.now i }
-{
-    let start = starts[i];
-    let end = starts[i + 1] - 1;
-    &lent[start..end]
-}
-
-// Whether the name of process i + 1 is none of those before it.
-fn new_name(lent: &[u8], starts: [usize; 9], i: usize) -> bool
-    requires { Started lent.now (i + 1) starts }
-    ensures { result ≡ all_below i (λ j. not (same (name_of lent.now i) (name_of lent.now j))) }
-{
-    for j in 0..i {
-        if same(name(lent, starts, i), name(lent, starts, j)) {
-            return false;
-        }
+    // Whether the name of process i + 1 is none of those before it.
+    fn is_new(&self, i: usize) -> bool
+        requires { i < self.now.count }
+        ensures { result ≡ all_below i (λ j. not (same (name_of self.now.lent.now i) (name_of self.now.lent.now j))) }
+    {
+        let name = self.name(i);
+        (0..i).all(|j| name != self.name(j))
     }
-    true
-}
 
-// Whether no two of n names are the same.
-fn all_different(lent: &[u8], starts: [usize; 9], n: usize) -> bool
-    requires { Started lent.now n starts }
-    ensures { result ≡ all_below n (λ i. all_below i (λ j. not (same (name_of lent.now i) (name_of lent.now j)))) }
-{
-    for i in 0..n {
-        if !new_name(lent, starts, i) {
-            return false;
-        }
-    }
-    true
-}
-
-fn names_bad() -> Names
-    ensures { result.good ≡ false }
-{
-    Names {
-        good: false,
-        starts: [0; 9],
+    // Whether no two names are the same.
+    fn all_different(&self) -> bool
+        ensures { result ≡ all_below self.now.count (λ i. all_below i (λ j. not (same (name_of self.now.lent.now i) (name_of self.now.lent.now j)))) }
+    {
+        (0..self.count).all(|i| self.is_new(i))
     }
 }
 
 // n names: each fits, nothing stands behind the last, and no two are the same.
-pub fn read_names(lent: &[u8], n: usize) -> Names
+pub fn read_names<'a>(lent: &'a [u8], n: usize) -> Option<Names<'a>>
     requires { n ≤ 8 }
-    ensures { NamesTold lent.now n result }
+    ensures good { is_some result ≡ names_good lent.now n }
+    ensures read { IfSome result (λ names. (names.lent.now ≡ lent.now) × (names.count ≡ n)) }
 {
     let mut starts = [0usize; 9];
     let mut at = 0;
     for i in 0..n {
-        let letters = letters_at(lent, at);
+        let letters = letters(&lent[at..]);
         if !fits(lent, at, letters) {
-            return names_bad();
+            return None;
         }
-        at = at + letters + 1;
+        at += letters + 1;
         starts[i + 1] = at;
     }
     if at != lent.len() {
-        return names_bad();
+        return None;
     }
-    let good = all_different(lent, starts, n);
-    Names { good, starts }
+    let names = Names {
+        lent,
+        count: n,
+        starts,
+    };
+    names.all_different().then_some(names)
 }

@@ -6,11 +6,18 @@ use mathlib.Core.List.{List}
 use lib.ListN.{length, take}
 use lib.Seq.{take_at}
 use borrow.Author.Tests.{le-leb, lt-leb}
+use Rattle.std.specs.Prelude.{Option, Some, None, Err}
+use Rattle.std.specs.Option.{ok_or}
 use Rattle.rules.specs.Count.{Result}
 use Rattle.rules.specs.Tests.{first_fault}
 use Rattle.rules.specs.Sentences.{text}
 use Rattle.rules.specs.Notice.{name_of, names_good, Telling, text_told, text_refused, text_fault, tell, output_after}
 use Rattle.output.specs.Written.{written}
+
+-- the error of nothing is the one given
+pub error_is : {X E : Type 0} (o : Option X) (e x : E) → Err x ≡ ok_or o e → x ≡ e
+error_is None e x p = cc
+error_is (Some y) e x p = cc
 
 -- a refusal leaves the output as it was
 pub unchanged : (t : Telling) (refusal number : ℕ) (out : List ℕ) → t ≡ text_refused refusal number → (text_refused refusal number ≡ t) × (out ≡ output_after t out)

@@ -1,32 +1,19 @@
 -- What an audited record shows, by rows and columns.
 use Prim.Native.Nat.{ℕ, ◌+◌, ◌*◌, ◌/◌, ◌%◌, ◌<◌}
 use mathlib.Core.Path.{◌≡◌, ◌∙◌}
-use mathlib.Core.Bool.{false}
 use mathlib.Core.List.{List}
 use native.Mathlib.Nat.{add-zero, mul-add-div_right, mul-add-mod_self_right, div-eq_of_lt, mod-eq_of_lt}
-use lib.Dec.{eqb}
 use lib.ListN.{get_or, drop}
 use lib.Seq.{get_or-take, get_or-drop}
-use borrow.Author.Tests.{eq-eqb, ne_eqb}
 use Rattle.numbers.specs.Below.{all_below}
 use Rattle.numbers.proofs.Tests.{all_grid, all_same}
-use Rattle.group.specs.Arithmetic.{pow_mod}
 use Rattle.group.specs.Elements.{Parameters}
-use Rattle.rules.specs.Group.{paired}
 use Rattle.rules.specs.Bytes.{part, number4}
 use Rattle.rules.specs.Claims.{matrix_at}
 use Rattle.rules.specs.Audit.{value_of, pair_opens}
 use Rattle.openings.specs.Shown.{opens_at}
 
--- a pair's equations: that of b first, then that of Y
-module _ (g : Parameters) (b y x v due : ℕ) (e : due ≡ paired g x v) where
-  pub b_holds : b ≡ due → (z : ℕ) → z ≡ pow_mod g.p g.g1 x → eqb y z ≡ pair_opens g b y x v
-  b_holds d z w = rw (← e, eq-eqb b due d, w)
-
-  pub b_fails : (b ≡ due → ⊥) → false ≡ pair_opens g b y x v
-  b_fails d = rw (← e, ne_eqb b due d)
-
-pub part_at : (s : List ℕ) (at n i : ℕ) → i < n → get_or (part s at n) i 0 ≡ get_or s (at + i) 0
+part_at : (s : List ℕ) (at n i : ℕ) → i < n → get_or (part s at n) i 0 ≡ get_or s (at + i) 0
 part_at s at n i l = get_or-take n (drop at s) i 0 l ∙ get_or-drop at s i 0
 
 -- the pairs of a matrix, counted through by rows

@@ -11,30 +11,20 @@ ghost use Rattle.openings.specs.Shown.{opens_at};
 
 use group::{Element, Exponent, Group};
 
-// Whether process c stands among the n bytes at a place.
-fn lists(s: &[u8], at: usize, n: usize, c: usize) -> bool
-    requires { at + n ≤ length s.now }
-    ensures { result ≡ member c (part s.now at n) }
+// Whether a process stands in a ranking.
+fn lists(ranking: &[u8], process: usize) -> bool
+    ensures { result ≡ member process ranking.now }
 {
-    for i in 0..n {
-        if numbers::wide(s[at + i]) == c {
-            return true;
-        }
-    }
-    false
+    ranking.iter().any(|&x| usize::from(x) == process)
 }
 
-// Whether every process stands among them.
+// Whether every process stands among the n bytes at a place.
 pub fn is_ranking(s: &[u8], at: usize, n: usize) -> bool
     requires { at + n ≤ length s.now }
     ensures { result ≡ is_ranking n (part s.now at n) }
 {
-    for i in 0..n {
-        if !lists(s, at, n, i + 1) {
-            return false;
-        }
-    }
-    true
+    let ranking = &s[at..at + n];
+    (0..n).all(|i| lists(ranking, i + 1))
 }
 
 // Whether a pair opens to an exponent and a value.
@@ -44,11 +34,7 @@ pub fn pair_opens(g: Group, b: Element, y: Element, x: Exponent, v: Exponent) ->
 {
     let p = g.p;
     let due = group::mul(p, group::pow(p, g.g0, x), group::pow(p, g.g1, v));
-    if b.0 == due.0 {
-        y.0 == group::pow(p, g.g1, x).0
-    } else {
-        false
-    }
+    b.0 == due.0 && y.0 == group::pow(p, g.g1, x).0
 }
 
 // The value of a pair in the row of a process: 1 in that process's column, counted from 0.
@@ -56,10 +42,7 @@ fn value_of(process: u8, column: usize) -> u32
     requires { column < 8 }
     ensures { result ≡ cond (eqb process (column + 1)) 1 0 }
 {
-    if numbers::wide(process) == column + 1 {
-        return 1;
-    }
-    0
+    u32::from(usize::from(process) == column + 1)
 }
 
 // Whether the pairs of a matrix of n rows open to the exponents and the ranking shown at a place.
@@ -67,18 +50,13 @@ pub fn matrix_opens(s: &[u8], g: Group, n: usize, pairs: usize, shown: usize) ->
     requires { (0 < g.p) × (0 < n) × (n ≤ 8) × (pairs + 8 * (n * n) ≤ length s.now) × (shown + 4 * (n * n) + n ≤ length s.now) }
     ensures { result ≡ all_below (n * n) (opens_at s.now (parameters_of g) n pairs shown) }
 {
-    let group = g;
-    let count = n * n;
-    let ranking = shown + 4 * count;
-    for t in 0..count {
+    let ranking = shown + 4 * (n * n);
+    (0..n * n).all(|t| {
         let place = pairs + 8 * t;
         let b = fields::as_element(s, place);
         let y = fields::as_element(s, place + 4);
-        let x = Exponent(fields::number4(s, shown + 4 * t));
+        let x = fields::as_exponent(s, shown + 4 * t);
         let v = Exponent(value_of(s[ranking + t / n], t % n));
-        if !pair_opens(group, b, y, x, v) {
-            return false;
-        }
-    }
-    true
+        pair_opens(g, b, y, x, v)
+    })
 }

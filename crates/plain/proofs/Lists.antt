@@ -1,17 +1,18 @@
 -- Those still in, one by one; a place found.
 use Prim.Native.Nat.{ℕ, zero, suc, ◌+◌, ◌-◌, ◌≤◌, ◌<◌}
 use mathlib.Core.Path.{◌≡◌, refl, sym, ap, ◌∙◌}
-use mathlib.Core.Bool.{true, false}
+use mathlib.Core.Bool.{true, false, not}
 use mathlib.Core.List.{List, [], ◌∷◌, ◌++◌, append-nil}
-use native.Mathlib.Nat.{add-zero}
-use native.Mathlib.Numerals.{add-one}
 use native.Mathlib.Omega.{arith}
-use borrow.Author.Tests.{eq-eqb, ne_eqb}
-use lib.Dec.{eqb}
-use lib.ListN.{length, get_or, take, drop, replicate, length-take, length-drop, drop_of_length-le}
-use lib.Seq.{take-suc, drop-cons, get_or-drop}
+use borrow.Author.Tests.{eq-eqb, ne_eqb, eqb-true, eqb-false, ltb-false}
+use lib.Dec.{eqb, ltb}
+use lib.ListN.{length, get_or, take, replicate, length-take}
+use Rattle.std.specs.List.{position, position_or_len}
+use Rattle.std.specs.Option.{unwrap_or}
+use Rattle.std.proofs.lemmas.List.{take_more}
+use Rattle.std.proofs.lemmas.List.Sums.{prefix_len-le-length}
+use Rattle.numbers.proofs.Tables.{zero_everywhere}
 use Rattle.numbers.proofs.Tests.{by_cases}
-use Rattle.rules.specs.Bytes.{part}
 use Rattle.rules.specs.Count.{member}
 use Rattle.jobs.specs.Job.{remaining, row_of}
 use Rattle.rules.specs.Answers.{with_zeros}
@@ -20,11 +21,6 @@ standing_append : (gone a b : List ℕ) → remaining gone (a ++ b) ≡ remainin
 unfolding remaining
 standing_append gone [] b = refl
 standing_append gone (c ∷ a) b = by_cases (member c gone) (λ e. rw e (standing_append gone a b)) (λ e. rw e (ap (λ (l : List ℕ). c ∷ l) (standing_append gone a b)))
-
-part_more : (s : List ℕ) (at i : ℕ) → at + i < length s → part s at (i + 1) ≡ part s at i ++ (get_or s (at + i) 0 ∷ [])
-part_more s at i h =
-    let k : i < length (drop at s) = simp length-drop (omega arith) in
-    rw (add-one, take-suc (drop at s) i 0 k, get_or-drop)
 
 length_standing : (gone a : List ℕ) → length (remaining gone a) ≤ length a
 unfolding remaining
@@ -39,29 +35,24 @@ one_in : (gone l : List ℕ) (c : ℕ) → member c gone ≡ false → l ++ rema
 unfolding remaining
 one_in gone l c e = rw e
 
-module _ (gone s : List ℕ) (at i : ℕ) (h : at + i < length s) where
-  step : remaining gone (part s at (i + 1)) ≡ remaining gone (part s at i) ++ remaining gone (get_or s (at + i) 0 ∷ [])
-  step = ap (remaining gone) (part_more s at i h) ∙ standing_append gone (part s at i) (get_or s (at + i) 0 ∷ [])
+module _ (gone xs : List ℕ) (i : ℕ) (h : i < length xs) where
+  step : remaining gone (take (i + 1) xs) ≡ remaining gone (take i xs) ++ remaining gone (get_or xs i 0 ∷ [])
+  step = ap (remaining gone) (take_more xs i 0 h) ∙ standing_append gone (take i xs) (get_or xs i 0 ∷ [])
 
-  pub standing_out : member (get_or s (at + i) 0) gone ≡ true → remaining gone (part s at i) ≡ remaining gone (part s at (i + 1))
-  standing_out e = sym (step ∙ one_out gone (remaining gone (part s at i)) (get_or s (at + i) 0) e)
+  pub standing_out : member (get_or xs i 0) gone ≡ true → remaining gone (take i xs) ≡ remaining gone (take (i + 1) xs)
+  standing_out e = sym (step ∙ one_out gone (remaining gone (take i xs)) (get_or xs i 0) e)
 
-  pub standing_in : member (get_or s (at + i) 0) gone ≡ false → remaining gone (part s at i) ++ (get_or s (at + i) 0 ∷ []) ≡ remaining gone (part s at (i + 1))
-  standing_in e = sym (step ∙ one_in gone (remaining gone (part s at i)) (get_or s (at + i) 0) e)
+  pub standing_in : member (get_or xs i 0) gone ≡ false → remaining gone (take i xs) ++ (get_or xs i 0 ∷ []) ≡ remaining gone (take (i + 1) xs)
+  standing_in e = sym (step ∙ one_in gone (remaining gone (take i xs)) (get_or xs i 0) e)
 
-pub part_few : (gone s : List ℕ) (at i : ℕ) → length (remaining gone (part s at i)) ≤ i
-part_few gone s at i =
-    let a = length_standing gone (part s at i) in
-    let b : length (part s at i) ≤ i = simp (length-take) (omega arith) in
+pub few : (gone xs : List ℕ) (i : ℕ) → length (remaining gone (take i xs)) ≤ i
+few gone xs i =
+    let a = length_standing gone (take i xs) in
+    let b : length (take i xs) ≤ i = simp length-take (omega arith) in
     omega arith
 
-pub get_or_zeros : (m i : ℕ) → ◌≡◌ {A = ℕ} (get_or (replicate m 0) i 0) 0
-get_or_zeros zero i = refl
-get_or_zeros (suc m) zero = refl
-get_or_zeros (suc m) (suc i) = get_or_zeros m i
-
 pad_at : (l : List ℕ) (m i : ℕ) → ◌≡◌ {A = ℕ} (get_or (l ++ replicate m 0) i 0) (get_or l i 0)
-pad_at [] m i = get_or_zeros m i
+pad_at [] m i = zero_everywhere m i
 pad_at (x ∷ l) m zero = refl
 pad_at (x ∷ l) m (suc i) = pad_at l m i
 
@@ -69,24 +60,21 @@ pub padded_at : (l : List ℕ) (i : ℕ) → get_or (with_zeros l) i 0 ≡ get_o
 unfolding with_zeros
 padded_at l i = pad_at l (8 - length l) i
 
--- a search through the first of a list
-module _ (list : List ℕ) (size a i : ℕ) (long : size ≤ length list) where
-  cut : i < size → drop i (take size list) ≡ get_or (take size list) i 0 ∷ drop (suc i) (take size list)
-  cut h = drop-cons (take size list) i 0 (simp length-take (omega arith))
+-- the place of a number: the code's search
+place_is : (a : ℕ) (l : List ℕ) → position_or_len (λ x. eqb x a) l ≡ row_of a l
+unfolding row_of
+place_is a [] = refl
+place_is a (x ∷ l) =
+    by_cases (eqb x a)
+    (λ t. rw (t, eq-eqb a x (sym (eqb-true x a t))))
+    (λ t. rw (t, ne_eqb a x (λ e. eqb-false x a t (sym e)), place_is a l) (omega arith))
 
-  pub place_found : i < size → get_or (take size list) i 0 ≡ a → row_of a (take size list) ≡ i + row_of a (drop i (take size list)) → i ≡ row_of a (take size list)
-  unfolding row_of
-  place_found h e w = sym (w ∙ rw (cut h, e, eq-eqb a a refl) (add-zero i))
-
-  pub place_passed : i < size → (get_or (take size list) i 0 ≡ a → ⊥) → row_of a (take size list) ≡ i + row_of a (drop i (take size list)) →
-      row_of a (take size list) ≡ i + 1 + row_of a (drop (i + 1) (take size list))
-  unfolding row_of
-  place_passed h n w =
-      let t : eqb a (get_or (take size list) i 0) ≡ false = ne_eqb a (get_or (take size list) i 0) (λ e. n (sym e)) in
-      w ∙ rw (cut h, t, add-one) (omega arith)
-
-  pub place_end : size ≤ i → row_of a (take size list) ≡ i + row_of a (drop i (take size list)) → i ≡ row_of a (take size list)
-  unfolding row_of
-  place_end h w =
-      let n : drop i (take size list) ≡ [] = drop_of_length-le (take size list) {i = i} (simp length-take (omega arith)) in
-      sym (w ∙ rw n (add-zero i))
+pub row_is : (a : ℕ) (xs : List ℕ) (size : ℕ) → size ≡ length xs → unwrap_or (position (λ x. eqb x a) xs) size ≡ row_of a xs
+row_is a xs size e =
+    by_cases (ltb (position_or_len (λ x. eqb x a) xs) (length xs))
+    (λ t. rw t (place_is a xs))
+    (λ t.
+    let most = prefix_len-le-length (λ x. not (eqb x a)) xs in
+    let past = ltb-false (position_or_len (λ x. eqb x a) xs) (length xs) t in
+    let all : size ≡ position_or_len (λ x. eqb x a) xs = omega arith in
+    rw t (all ∙ place_is a xs))

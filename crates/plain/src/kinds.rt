@@ -8,11 +8,8 @@ pub fn counted(kinds: &[u8], k: usize) -> usize
     requires { k ≤ length kinds.now }
     ensures { (result ≡ sum_below k (λ i. cond (is_counted (get_or kinds.now i 0)) 1 0)) × (result ≤ k) }
 {
-    let mut c = 0;
-    for b in 0..k {
-        if numbers::wide(kinds[b]) == layout::COUNTED {
-            c += 1;
-        }
-    }
-    c
+    kinds[..k]
+        .iter()
+        .filter(|&&kind| usize::from(kind) == layout::COUNTED)
+        .count()
 }

@@ -1,5 +1,5 @@
 // One ranking among many: the n bytes at a place.
-ghost use Rattle.std.specs.Prelude.{◌≡◌, ◌+◌, ◌*◌, ◌≤◌, ◌<◌, length, take};
+ghost use Rattle.std.specs.Prelude.{◌≡◌, ◌+◌, ◌*◌, ◌≤◌, ◌<◌, length, take, MatchOption};
 ghost use Rattle.rules.specs.Bytes.{part};
 ghost use Rattle.rules.specs.Answers.{with_zeros};
 ghost use Rattle.rules.specs.Count.{still_in, first_in};
@@ -9,46 +9,38 @@ ghost use Rattle.count.specs.State.{list_of, Listed};
 
 use count::Gone;
 
-// The first of k rankings, from 1, that lacks a process; 0 where none does.
-pub fn first_bad(rankings: &[u8], n: usize, k: usize) -> usize
+// The first of k rankings, from 1, that lacks a process.
+pub fn first_bad(rankings: &[u8], n: usize, k: usize) -> Option<usize>
     requires { (n ≤ 8) × (k ≤ 1000) × (k * n ≤ length rankings.now) }
-    ensures { (job : Job) → job.n ≡ n → job.rankings ≡ rankings.now → result ≡ first_bad job k }
+    ensures { (job : Job) → job.n ≡ n → job.rankings ≡ rankings.now → MatchOption result (first_bad job k ≡ 0) (λ bad. (0 < bad) × (bad ≡ first_bad job k)) }
 {
     for b in 0..k {
-        let at = b * n;
-        if !openings::is_ranking(rankings, at, n) {
-            return b + 1;
+        if !openings::is_ranking(rankings, b * n, n) {
+            return Some(b + 1);
         }
     }
-    0
+    None
 }
 
 // Whether c is a process that has not gone out.
+#[tactic(auto, unfolding(rules::specs::Count::still_in))]
 fn is_in(c: usize, n: usize, gone: Gone) -> bool
     requires { Listed gone }
     ensures { result ≡ still_in n (list_of gone) c }
 {
-    if c < 1 {
-        return false;
-    }
-    if n < c {
-        return false;
-    }
-    !gone.is_out(c)
+    (1..=n).contains(&c) && !gone.is_out(c)
 }
 
-// The first process on it that is still in, 0 where there is none.
+// The first process on it that is still in, 0 where there is none: the rules' own answer, `first_in` of rules/specs/Count.antt.
 pub fn first_in(rankings: &[u8], at: usize, n: usize, gone: Gone) -> usize
     requires { (at + n ≤ length rankings.now) × Listed gone }
     ensures { result ≡ first_in n (list_of gone) (part rankings.now at n) }
 {
-    for i in 0..n {
-        let c = numbers::wide(rankings[at + i]);
-        if is_in(c, n, gone) {
-            return c;
-        }
-    }
-    0
+    rankings[at..at + n]
+        .iter()
+        .map(|&c| usize::from(c))
+        .find(|&c| is_in(c, n, gone))
+        .unwrap_or(0)
 }
 
 // Those on it that have not gone out, in order, and zeros after them.
@@ -58,9 +50,8 @@ pub fn still_in(rankings: &[u8], at: usize, n: usize, gone: Gone) -> [u8; 8]
 {
     let mut list = [0u8; 8];
     let mut found = 0;
-    for i in 0..n {
-        let c = rankings[at + i];
-        if !gone.is_out(numbers::wide(c)) {
+    for &c in &rankings[at..at + n] {
+        if !gone.is_out(usize::from(c)) {
             list[found] = c;
             found += 1;
         }
@@ -73,12 +64,5 @@ pub fn row_of(list: [u8; 8], size: usize, a: u8) -> usize
     requires { size ≤ 8 }
     ensures { result ≡ row_of a (take size list) }
 {
-    let mut i = 0;
-    while i < size {
-        if list[i] == a {
-            return i;
-        }
-        i += 1;
-    }
-    i
+    list[..size].iter().position(|&x| x == a).unwrap_or(size)
 }

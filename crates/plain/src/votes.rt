@@ -9,18 +9,13 @@ use crate::rankings;
 use count::{Gone, Sheet};
 
 // One vote more for a process, none for any other number.
-fn voted(counts: [u32; 8], c: usize) -> [u32; 8]
-    requires { (i : ℕ) → i < 8 → get_or counts i 0 < 100000 }
-    ensures { (length result ≡ 8) × ((i : ℕ) → i < 8 → get_or result i 0 ≡ get_or counts i 0 + cond (eqb c (suc i)) 1 0) }
+fn vote(counts: &mut [u32; 8], c: usize)
+    requires { (i : ℕ) → i < 8 → get_or counts.old i 0 < 100000 }
+    ensures { (length counts.new ≡ 8) × ((i : ℕ) → i < 8 → get_or counts.new i 0 ≡ get_or counts.old i 0 + cond (eqb c (suc i)) 1 0) }
 {
-    let mut r = counts;
-    if 0 < c {
-        if c <= 8 {
-            let i = c - 1;
-            r[i] = r[i] + 1;
-        }
+    if (1..=8).contains(&c) {
+        counts[c - 1] += 1;
     }
-    r
 }
 
 // The counts of the counted ballots among k.
@@ -30,11 +25,9 @@ pub fn tally(rankings: &[u8], kinds: &[u8], n: usize, k: usize, gone: Gone) -> S
 {
     let mut counts = [0u32; 8];
     for b in 0..k {
-        let counted = numbers::wide(kinds[b]) == layout::COUNTED;
+        let counted = usize::from(kinds[b]) == layout::COUNTED;
         if counted {
-            let at = b * n;
-            let next = voted(counts, rankings::first_in(rankings, at, n, gone));
-            counts = next;
+            vote(&mut counts, rankings::first_in(rankings, b * n, n, gone));
         }
     }
     Sheet { counts }

@@ -24,7 +24,6 @@ use Rattle.jobs.specs.Prover.{Prover, commitment_bytes, committed, challenge_of,
 use Rattle.output.specs.Written.{written}
 use Rattle.output.proofs.Laws.{more, patch, rest_from, blocks_more}
 use Rattle.proving.specs.declared.Plan.{Plan}
-use Rattle.proving.specs.declared.Maker.{Maker}
 use Rattle.proving.specs.Plans.{branch_said, Branched, drafted, draft_challenge, draft_commitments, draft_responses, draft_branch, false_complements, plan_draws, answers, prover_of, proof_of}
 use Rattle.rules.proofs.Messages.{message_same}
 use Rattle.jobs.proofs.Lengths.{length_branch}
@@ -82,15 +81,9 @@ module _ (g : Parameters) (claim : ℕ → ℕ → Statement) (plan : Plan) (dra
       more (concat_below l held) (held l) o out x a (length_blocks l (4 + 12 * plan.statements) held (λ l h. length_held l) ∙ sym ea) eo b.wrote
       ∙ rw (blocks_more held l)
 
-module _ (label : List ℕ) (context : Context) (g : Parameters) (claim : ℕ → ℕ → Statement) (maker : Maker) (draws : List ℕ) where
-  abbrev plan : Plan
-  plan = maker.plan
-
-  abbrev witness : List Exponent
-  witness = maker.witness
-
+module _ (label : List ℕ) (context : Context) (g : Parameters) (claim : ℕ → ℕ → Statement) (plan : Plan) (witness : List Exponent) (draws : List ℕ) where
   abbrev pr : Prover
-  pr = prover_of context claim maker draws
+  pr = prover_of context claim plan witness draws
 
   abbrev ts : (l i : ℕ) → List ℕ
   ts l i = commitment_bytes (committed g pr l i)
@@ -110,7 +103,7 @@ module _ (label : List ℕ) (context : Context) (g : Parameters) (claim : ℕ �
   final : ℕ → List ℕ
   final l = branch_bytes (es l) plan.statements (ts l) (rs l)
 
-  proof_is : proof_of label context g claim maker draws ≡ concat_below plan.branches final
+  proof_is : proof_of label context g claim plan witness draws ≡ concat_below plan.branches final
   unfolding proof_bytes final branch_bytes
   proof_is = refl
 
@@ -165,7 +158,7 @@ module _ (label : List ℕ) (context : Context) (g : Parameters) (claim : ℕ �
     pub joined : (o l r : List ℕ) (a e at : ℕ) → a ≡ plan.known * (4 + 12 * plan.statements) → e ≡ c → at ≡ plan_draws plan plan.known →
         l ≡ written (concat_below plan.branches first) o →
         r ≡ written (branch_bytes e plan.statements (λ i. part (mid_of a (length l - a) l) (4 + 12 * i) 8) (answers g.q e witness draws at)) (mid_of a (length l - a) l) →
-        put_mid a (length l - a) l r ≡ written (proof_of label context g claim maker draws) o
+        put_mid a (length l - a) l r ≡ written (proof_of label context g claim plan witness draws) o
     joined o l r a e at ea ee eat el er =
         let x : List ℕ = concat_below plan.known first in
         let old : List ℕ = first plan.known in

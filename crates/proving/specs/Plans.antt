@@ -1,8 +1,12 @@
 -- How a proof is made, in the terms of the rules.
 use Rattle.std.specs.Prelude.{ℕ, ◌+◌, ◌*◌, ◌-◌, ◌^◌, ◌≤◌, ◌<◌, ◌≡◌, Bool, cond, List, ◌++◌, eqb, length, get_or}
+use Rattle.std.proofs.Props.{props}
 use Rattle.numbers.specs.Below.{sum_below, concat_below}
+use Rattle.statements.specs.declared.claims.Claim.{Claim}
+use Rattle.statements.specs.declared.claims.Claim.TheVariants.{Entry, Line, Shift}
 use Rattle.rules.specs.Bytes.{bytes4}
 use Rattle.group.specs.Elements.{Parameters}
+use Rattle.group.specs.declared.Element.{Element}
 use Rattle.group.specs.declared.Exponent.{Exponent}
 use Rattle.rules.specs.Proofs.{Statement, Commitments, Context, statement_bytes}
 use Rattle.jobs.specs.Prover.{Prover, commitment_bytes, true_commitments, false_commitments, true_response, proof_bytes, branch_draws, branch_bytes}
@@ -12,7 +16,6 @@ use Rattle.sha256.specs.declared.Hasher.{Hasher}
 use Rattle.output.specs.Written.{written}
 use Rattle.statements.specs.Claims.{Within}
 use Rattle.proving.specs.declared.Plan.{Plan}
-use Rattle.proving.specs.declared.Maker.{Maker}
 
 -- what the message says of a statement, and of a branch
 abbrev pub branch_said : (S : ℕ) (claim : ℕ → Statement) (t : ℕ → Commitments) → List ℕ
@@ -56,9 +59,21 @@ pub record PlanDraws (q : ℕ) (plan : Plan) (draws : List ℕ) : Type 0 where
   pub below : (d : ℕ) → d + 1 < plan.from + plan.branches * (1 + plan.statements) → get_or draws d 0 < q
 
 -- and the pairs that the claim names stand on the page
-pub record Planned (g : Parameters) (page inverses : List ℕ) (plan : Plan) (draws : List ℕ) : Type 0 where
+pub record Planned (g : Parameters) (page : List ℕ) (inverses : List Element) (plan : Plan) (draws : List ℕ) : Type 0 where
   pub drawn : PlanDraws g.q plan draws
   pub ready : (l i : ℕ) → l < plan.branches → i < plan.statements → Within page inverses g plan.claim l i
+
+-- both hold in one way at most
+Within-prop : (page : List ℕ) (inverses : List Element) (g : Parameters) (claim : Claim) (l i : ℕ) → IsProp (Within page inverses g claim l i)
+unfolding Within
+Within-prop page inverses g (Entry at) l i = Prim.hlevel props
+Within-prop page inverses g (Line at stride count) l i = Prim.hlevel props
+Within-prop page inverses g (Shift m) l i = Prim.hlevel props
+
+pub Planned-prop : (g : Parameters) (page : List ℕ) (inverses : List Element) (plan : Plan) (draws : List ℕ) → IsProp (Planned g page inverses plan draws)
+Planned-prop g page inverses plan draws =
+    let drawn : IsProp (PlanDraws g.q plan draws) = Prim.hlevel props in
+    λ a b i. record { drawn = drawn a.drawn b.drawn i; ready = λ l k h m. Within-prop page inverses g plan.claim l k (a.ready l k h m) (b.ready l k h m) i }
 
 -- a branch before the known one's challenge is known: 0 stands for it, and the nonces for the responses
 unfoldable pub draft_challenge : Plan → (draws : List ℕ) (l : ℕ) → ℕ
@@ -82,22 +97,22 @@ pub record Committed (g : Parameters) (claim : ℕ → ℕ → Statement) (plan 
 unfoldable pub false_complements : (q : ℕ) → Plan → (draws : List ℕ) → ℕ → ℕ
 false_complements q plan draws n = sum_below n (λ l. cond (eqb l plan.known) 0 (q - get_or draws (plan_draws plan l) 0))
 
--- what the rules say of the maker of a proof
-abbrev pub prover_of : Context → (ℕ → ℕ → Statement) → Maker → (draws : List ℕ) → Prover
-prover_of c claim maker draws =
+-- what the rules say of one who makes a proof and has the witnesses of the known branch
+abbrev pub prover_of : Context → (ℕ → ℕ → Statement) → Plan → (witness : List Exponent) (draws : List ℕ) → Prover
+prover_of c claim plan witness draws =
     record {
       context = c;
-      branches = maker.plan.branches;
-      statements = maker.plan.statements;
+      branches = plan.branches;
+      statements = plan.statements;
       claim = claim;
-      known = maker.plan.known;
-      witness = witness_at maker.witness;
+      known = plan.known;
+      witness = witness_at witness;
       draw = λ d. get_or draws d 0;
-      from = maker.plan.from;
+      from = plan.from;
     }
 
-abbrev pub proof_of : (label : List ℕ) → Context → Parameters → (ℕ → ℕ → Statement) → Maker → (draws : List ℕ) → List ℕ
-proof_of label c g claim maker draws = proof_bytes g (prover_of c claim maker draws) sha256 label
+abbrev pub proof_of : (label : List ℕ) → Context → Parameters → (ℕ → ℕ → Statement) → Plan → (witness : List Exponent) (draws : List ℕ) → List ℕ
+proof_of label c g claim plan witness draws = proof_bytes g (prover_of c claim plan witness draws) sha256 label
 
 -- so many draws from a place on are there, and below q
 pub record DrawsBelow (q : ℕ) (draws : List ℕ) (from count : ℕ) : Type 0 where

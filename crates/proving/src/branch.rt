@@ -2,16 +2,15 @@
 ghost use Rattle.std.specs.Prelude.{◌≡◌, false, cond, ◌+◌, ◌*◌, ◌^◌, ◌≤◌, ◌<◌, length, get_or};
 ghost use Rattle.group.specs.Elements.{parameters_of};
 ghost use Rattle.rules.specs.Bytes.{part};
-ghost use Rattle.statements.specs.Values.{Ready};
 ghost use Rattle.statements.specs.Claims.{claim_of};
 ghost use Rattle.output.specs.Written.{written};
 ghost use Rattle.jobs.specs.Prover.{true_response, branch_bytes};
-ghost use Rattle.proving.specs.Plans.{Branched, answers, plan_draws, Planned, draft_challenge, draft_commitments, draft_responses};
+ghost use Rattle.proving.specs.Plans.{Branched, answers, plan_draws, draft_challenge, draft_commitments, draft_responses};
 
-use crate::{Plan, statement};
+use crate::{Inputs, Plan, statement};
 use group::Exponent;
 use sha256::Hasher;
-use statements::{Setup, claims};
+use statements::claims;
 
 // Where a branch's draws start.
 pub fn branch_draws(plan: Plan, l: usize) -> usize
@@ -19,18 +18,7 @@ pub fn branch_draws(plan: Plan, l: usize) -> usize
     ensures { result ≡ plan_draws plan l }
 {
     let at = plan.from + l * (1 + plan.statements);
-    if plan.known < l {
-        return at - 1;
-    }
-    at
-}
-
-// Branch l of a plan, and where its draws start.
-#[derive(Clone, Copy)]
-pub struct Branch {
-    pub plan: Plan,
-    pub l: usize,
-    pub at: usize,
+    if plan.known < l { at - 1 } else { at }
 }
 
 // The challenge that a branch is written with at first: 0 for the known one, else the draw at a place.
@@ -39,9 +27,10 @@ fn first_challenge(draws: &[u32], at: usize, known: bool) -> Exponent
     ensures { result.0 ≡ cond known 0 (get_or draws.now at 0) }
 {
     if known {
-        return Exponent(0);
+        Exponent(0)
+    } else {
+        Exponent(draws[at])
     }
-    Exponent(draws[at])
 }
 
 // Where its nonces or its responses start.
@@ -49,42 +38,26 @@ fn after_challenge(at: usize, known: bool) -> usize
     requires { at < 2 ^ 50 }
     ensures { result ≡ cond known at (at + 1) }
 {
-    if known {
-        return at;
-    }
-    at + 1
+    if known { at } else { at + 1 }
 }
 
 // A branch before the known one's challenge is known: of the known one 0 stands for the challenge and the nonces for the responses, those of another are drawn.
-pub fn commit_branch(
-    out: &mut [u8],
-    h: Hasher,
-    g: Setup,
-    page: &[u8],
-    inverses: &[u32],
-    branch: Branch,
-    draws: &[u32],
-) -> Hasher
-    requires ready { Ready g × Planned (parameters_of g.group) page.now inverses.now branch.plan draws.now }
-    requires l_lt_branches { (branch.l < branch.plan.branches) × (branch.at ≡ plan_draws branch.plan branch.l) × (4 + 12 * branch.plan.statements ≤ length out.old) }
-    ensures { Branched (claim_of page.now (parameters_of g.group) branch.plan.claim branch.l) (draft_challenge branch.plan draws.now branch.l) branch.plan.statements (draft_commitments (parameters_of g.group) (claim_of page.now (parameters_of g.group) branch.plan.claim) branch.plan draws.now branch.l) (draft_responses branch.plan draws.now branch.l) out.old out.new h result }
+pub fn commit_branch(out: &mut [u8], h: Hasher, inputs: Inputs, l: usize) -> Hasher
+    requires { (l < inputs.plan.branches) × (4 + 12 * inputs.plan.statements ≤ length out.old) }
+    ensures { let i = inputs.entry in Branched (claim_of i.page.now (parameters_of i.setup.group) i.plan.claim l) (draft_challenge i.plan i.draws.now l) i.plan.statements (draft_commitments (parameters_of i.setup.group) (claim_of i.page.now (parameters_of i.setup.group) i.plan.claim) i.plan i.draws.now l) (draft_responses i.plan i.draws.now l) out.old out.new h result }
 {
-    let group = g.group;
-    let plan = branch.plan;
-    let claim = plan.claim;
-    let statements = plan.statements;
-    let l = branch.l;
+    let plan = inputs.plan;
+    let at = branch_draws(plan, l);
     let known = l == plan.known;
-    let e = first_challenge(draws, branch.at, known);
-    let first = after_challenge(branch.at, known);
+    let e = first_challenge(inputs.draws, at, known);
+    let first = after_challenge(at, known);
     output::put_number4(out, e.0);
     let mut k = h;
-    for i in 0..statements {
-        let s = claims::claimed(page, inverses, g, claim, l, i);
+    for i in 0..plan.statements {
+        let s = claims::claimed(inputs.page, inputs.inverses, inputs.setup, plan.claim, l, i);
         let place = 4 + 12 * i;
-        let r = Exponent(draws[first + i]);
-        let next = statement::put_draft(&mut out[place..], k, group, s, known, e, r);
-        k = next;
+        let r = Exponent(inputs.draws[first + i]);
+        k = statement::put_draft(&mut out[place..], k, inputs.setup.group, s, known, e, r);
     }
     k
 }
@@ -93,7 +66,7 @@ fn response(q: u32, e: Exponent, nonce: Exponent, witness: Exponent) -> Exponent
     requires { 0 < q }
     ensures { result.0 ≡ true_response q nonce.0 e.0 witness.0 }
 {
-    group::add(q, nonce, group::mul_exp(q, e, witness))
+    group::add(q, nonce, group::mul(q, e, witness))
 }
 
 // The known branch's challenge and responses, beside the commitments that stand there.

@@ -14,12 +14,10 @@ fn commitment(g: Group, base: Element, side: Element, e: Exponent, r: Exponent) 
     requires { (0 < g.p) × (e.0 < g.q) }
     ensures { result.0 ≡ false_commitment (parameters_of g) base.0 side.0 e.0 r.0 }
 {
-    let p = g.p;
-    let q = g.q;
     group::mul(
-        p,
-        group::pow(p, base, r),
-        group::pow(p, side, Exponent(q - e.0)),
+        g.p,
+        group::pow(g.p, base, r),
+        group::pow(g.p, side, Exponent(g.q - e.0)),
     )
 }
 
@@ -54,15 +52,13 @@ pub fn put_draft(
     requires { (12 ≤ length out.old) × (0 < g.p) × (e.0 < g.q) }
     ensures { Stated (statement_of s) (drafted (parameters_of g) (statement_of s) known e.0 r.0) r.0 out.old out.new h result }
 {
-    let p = g.p;
-    let g0 = g.g0;
-    let g1 = g.g1;
     if known {
-        let t1 = group::pow(p, g0, r);
-        let t2 = group::pow(p, g1, r);
-        return put_statement(out, h, s, t1, t2, r);
+        let t1 = group::pow(g.p, g.g0, r);
+        let t2 = group::pow(g.p, g.g1, r);
+        put_statement(out, h, s, t1, t2, r)
+    } else {
+        let t1 = commitment(g, g.g0, s.left, e, r);
+        let t2 = commitment(g, g.g1, s.right, e, r);
+        put_statement(out, h, s, t1, t2, r)
     }
-    let t1 = commitment(g, g0, s.left, e, r);
-    let t2 = commitment(g, g1, s.right, e, r);
-    put_statement(out, h, s, t1, t2, r)
 }

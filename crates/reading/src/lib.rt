@@ -5,8 +5,8 @@
 ghost use Rattle.std.specs.Prelude.{◌≡◌, ◌≤◌, length, drop};
 ghost use Rattle.header.specs.Heads.{HeaderReads};
 
-use header::HeaderRead;
-use rules::Model;
+use header::Head;
+use rules::{Model, Refusal};
 
 #[derive(Clone, Copy)]
 pub struct Reading<'a> {
@@ -32,7 +32,7 @@ pub fn moved<'a>(r: Reading<'a>, next: usize) -> Reading<'a>
 }
 
 // What the bytes from a place on hold as the header of a model.
-fn header_at(board: &[u8], at: usize, model: Model) -> HeaderRead
+fn header_at(board: &[u8], at: usize, model: Model) -> Result<Head, Refusal>
     requires { at ≤ length board.now }
     ensures { HeaderReads model (drop at board.now) result }
 {
@@ -40,7 +40,7 @@ fn header_at(board: &[u8], at: usize, model: Model) -> HeaderRead
 }
 
 // The header at the next place.
-pub fn header_of<'a>(r: Reading<'a>, model: Model) -> HeaderRead
+pub fn header_of<'a>(r: Reading<'a>, model: Model) -> Result<Head, Refusal>
     requires { r.next ≤ length r.board.now }
     ensures { HeaderReads model (drop r.entry.next r.entry.board.now) result }
 {

@@ -1,5 +1,5 @@
 -- What the search answers, by what the header and the walk of the ballots tell.
-use Prim.Native.Nat.{ℕ, zero, suc, ◌-◌, ◌≤◌, ◌<◌}
+use Prim.Native.Nat.{ℕ, zero, suc, ◌≤◌, ◌<◌}
 use mathlib.Core.Path.{◌≡◌, refl, sym, ap, ◌∙◌}
 use mathlib.Core.Bool.{true, false}
 use mathlib.Core.List.{List, ◌++◌, append-nil}
@@ -16,13 +16,12 @@ use Rattle.rules.specs.Header.{ranked, Header, header, header_fault}
 use Rattle.rules.specs.Receipts.{digest_count, digest_at, same, ballot_record, frame_fault, Finding, numbers_found, find_refused, find_in_ballots, find_on_board, find_outcome, list_fault, digests_good, list_after}
 use Rattle.rules.specs.Answers.{refusal_number, finding_of}
 use Rattle.rules.specs.declared.Refusal.{Refusal}
-use Rattle.rules.specs.declared.Found.{Found}
+use Rattle.std.specs.Prelude.{Result, Ok, Err}
+use Rattle.rules.specs.declared.Refused.{Refused}
 use Rattle.rules.proofs.Lists.{length_table, table_at, table_same}
 use Rattle.rules.proofs.RefusalNumbers.{positive}
 use Rattle.header.specs.declared.Head.{Head}
 use Rattle.header.specs.Heads.{head_of, HeaderKnown}
-use Rattle.output.specs.Written.{written}
-use Rattle.receipts.specs.declared.Walk.TheVariants.{Sound, Refused}
 use Rattle.digests.specs.Order.{number_with, entered}
 use Rattle.receipts.specs.Steps.{numbers_after, Headed, Walked}
 
@@ -45,11 +44,11 @@ module _ (s digests : List ℕ) where
       ap (number_with (same (sha256 (ballot_record s k)) (digest_at digests i)) (suc k)) (ap (λ (t : List ℕ). get_or t i 0) (numbers_are k) ∙ table_at _ (found k) 0 i l))
 
   module _ (before after : List ℕ) where
-    pub walk_refused : (why : Refusal) (number : ℕ) → Walked s digests before after (Refused why number) → find_in_ballots sha256 s digests ≡ find_refused (refusal_number why) number
+    pub walk_refused : (e : Refused) → Walked s digests before after (Err e) → find_in_ballots sha256 s digests ≡ find_refused (refusal_number e.refusal) e.record
     unfolding Walked find_in_ballots
-    walk_refused why number w = rw (w.1, find_in_ballots, w.2)
+    walk_refused e w = rw (w.1, find_in_ballots, w.2)
 
-    pub walk_sound : before ≡ replicate (digest_count digests) 0 → Walked s digests before after Sound → find_in_ballots sha256 s digests ≡ numbers_found after
+    pub walk_sound : before ≡ replicate (digest_count digests) 0 → Walked s digests before after (Ok tt) → find_in_ballots sha256 s digests ≡ numbers_found after
     unfolding Walked find_in_ballots
     walk_sound e w = rw (w.0, find_in_ballots) (ap numbers_found (sym (w.1 ∙ rw e (numbers_are (header s).K))))
 
@@ -91,10 +90,8 @@ module _ (f : Finding) (entry : List ℕ) where
   pub refuses : (refusal number : ℕ) → f ≡ find_refused refusal number → (find_refused refusal number ≡ f) × (entry ≡ list_after f entry)
   refuses refusal number e = (sym e, rw e)
 
-  pub lists : (numbers exit : List ℕ) → f ≡ numbers_found numbers → length numbers ≡ length entry → exit ≡ written numbers entry → (numbers_found exit ≡ f) × (exit ≡ list_after f entry)
-  unfolding written
-  lists numbers exit e l x =
-      let same : exit ≡ numbers = x ∙ rw (drop_of_length-le entry {i = length numbers} (omega arith), append-nil) in (rw (same, e), rw e x)
+  pub lists : (numbers exit : List ℕ) → f ≡ numbers_found numbers → length numbers ≡ length entry → exit ≡ numbers → (numbers_found exit ≡ f) × (exit ≡ list_after f entry)
+  lists numbers exit e l x = (rw (x, e), rw (x, e, drop_of_length-le entry {i = length numbers} (omega arith), append-nil))
 
 -- the front of the list was lent, for as many numbers as there are digests, and comes back
 front : (f : Finding) (found exit : List ℕ) (count : ℕ) → count ≤ length found → exit ≡ list_after f (take count found) →
@@ -106,23 +103,21 @@ front (numbers_found numbers) found exit count l x long =
 front (find_refused refusal number) found exit count l x long = (ap length x ∙ simp length-take (omega arith), rw (x, take-append-drop))
 
 module _ (count : ℕ) where
-  pub front_none : (l : List ℕ) → l ≡ replicate 500 0 → count ≤ 500 → take (count - 0) l ≡ replicate count 0
+  pub front_none : (l : List ℕ) → l ≡ replicate 500 0 → count ≤ 500 → take count l ≡ replicate count 0
   front_none l e b =
-      let n : count - 0 ≡ count = omega arith in
       let zeros : List ℕ = replicate 500 0 in
       let long : length (take count zeros) ≡ count = simp (length-take, length-replicate) (omega arith) in
-      rw (e, n)
+      rw e
       (ext_get_or 0 (take count zeros) (replicate count 0) (long ∙ sym (length-replicate count 0))
       (λ i l. get_or-take count zeros i 0 (omega arith) ∙ get_or-replicate 500 i 0 0 (omega arith) ∙ sym (get_or-replicate count i 0 0 (omega arith))))
 
-  pub front_long : (l : List ℕ) → count ≤ length l → length (take (count - 0) l) ≡ count
+  pub front_long : (l : List ℕ) → count ≤ length l → length (take count l) ≡ count
   front_long l b = simp length-take (omega arith)
 
-  pub front_back : (s digests found exit : List ℕ) (r : Found) → header_fault sha256 ranked s ≡ 0 → count ≡ digest_count digests → count ≤ length found →
-      finding_of r exit ≡ find_in_ballots sha256 s digests → exit ≡ list_after (find_in_ballots sha256 s digests) (take (count - 0) found) →
-      (finding_of r (take count (exit ++ drop (count - 0) found)) ≡ find_on_board sha256 s digests)
-      × (exit ++ drop (count - 0) found ≡ list_after (find_on_board sha256 s digests) found)
+  pub front_back : (s digests found exit : List ℕ) (r : Result (Unit {0}) Refused) → header_fault sha256 ranked s ≡ 0 → count ≡ digest_count digests → count ≤ length found →
+      finding_of r exit ≡ find_in_ballots sha256 s digests → exit ≡ list_after (find_in_ballots sha256 s digests) (take count found) →
+      (finding_of r (take (digest_count digests) (exit ++ drop count found)) ≡ find_on_board sha256 s digests)
+      × (exit ++ drop count found ≡ list_after (find_on_board sha256 s digests) found)
   front_back s digests found exit r h e l a x =
-      let n : count - 0 ≡ count = omega arith in
-      let w = front (find_in_ballots sha256 s digests) found exit count l (x ∙ rw n) (λ numbers q. numbers_long s digests numbers q ∙ sym e) in
-      rw (header_sound s digests h, n) (rw (take_at exit (drop count found) count w.0) a, w.1)
+      let w = front (find_in_ballots sha256 s digests) found exit count l x (λ numbers q. numbers_long s digests numbers q ∙ sym e) in
+      rw (header_sound s digests h, ← e) (rw (take_at exit (drop count found) count w.0) a, w.1)

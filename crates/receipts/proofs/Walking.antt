@@ -17,13 +17,11 @@ use Rattle.rules.proofs.Faults.{no_fault, fault_at}
 use Rattle.rules.proofs.Positions.{position_first, number_first, place_record}
 use Rattle.rules.proofs.RefusalNumbers.{positive}
 use Rattle.rules.proofs.Lists.{length_table}
-use Rattle.frames.specs.declared.Fault.{Fault}
-use Rattle.frames.specs.declared.Fault.TheVariants as F
+use Rattle.std.specs.Prelude.{Result, Ok, Err}
 use Rattle.frames.specs.Framed.{Framed, BallotFramed}
 use Rattle.receipts.specs.declared.Hashed.{Hashed}
-use Rattle.receipts.specs.declared.Walk.TheVariants.{Sound, Refused}
 use Rattle.digests.specs.Order.{entered}
-use Rattle.receipts.specs.Steps.{numbers_after, HashedBy, Hashes, Headed, Walked}
+use Rattle.receipts.specs.Steps.{numbers_after, Hashes, Headed, Walked}
 
 -- the ballots before the one with a number are walked, and its record is next
 pub record WalkedTo (s digests before after : List ℕ) (number at : ℕ) : Type 0 where
@@ -44,7 +42,7 @@ module _ (s digests before : List ℕ) {n K : ℕ} (h : Headed s n K) where
 
   module _ {after : List ℕ} {number at : ℕ} (w : WalkedTo s digests before after number at) where
     -- what the code asks of the frame is what the rules ask
-    frame_here : (f : Fault) → BallotFramed s at n number f → BallotFramed s (place s (header s) 0 w.k) (header s).n (w.k + 1) f
+    frame_here : (f : Result (Unit {0}) Refusal) → BallotFramed s at n number f → BallotFramed s (place s (header s) 0 w.k) (header s).n (w.k + 1) f
     frame_here f t =
         let due : number ≡ w.k + 1 = omega (arith, w.next) in
         rw (w.here, h.processes, due) at t
@@ -53,31 +51,30 @@ module _ (s digests before : List ℕ) {n K : ℕ} (h : Headed s n K) where
       below : w.k < (header s).K
       below = omega (arith, h.ballots, w.next)
 
-      pub walked_refused : (why : Refusal) → BallotFramed s at n number (F.Refused why) → Walked s digests before after (Refused why number)
-      unfolding Walked BallotFramed
+      pub walked_refused : (why : Refusal) → Hashes s at n number (Err why) → Walked s digests before after (Err (record { refusal = why; «record» = number }))
+      unfolding Walked Hashes BallotFramed
       walked_refused why t =
-          let e : frame_fault s w.k ≡ refusal_number why = frame_here (F.Refused why) t [] in
+          let e : frame_fault s w.k ≡ refusal_number why = frame_here (Err why) t [] in
           (w.k, rw (← e) (fault_at (header s).K (frame_fault s) w.k below w.sound (λ z. omega (arith, positive why))), omega (arith, number_first s (header s) w.k, w.next), w.entered)
 
-      pub walked_more : (r : Hashed) → Hashes s at n number r → r.fault ≡ F.Sound → (more : List ℕ) → more ≡ entered digests r.digest number after → WalkedTo s digests before more (number + 1) r.next
-      unfolding BallotFramed Framed HashedBy first_fault numbers_after entered record_length position
-      walked_more r read es more em =
-          let t = rw es at read.framed in
-          let d = rw es at read.hashed in
-          let f = frame_here F.Sound t in
+      pub walked_more : (r : Hashed) → Hashes s at n number (Ok r) → (more : List ℕ) → more ≡ entered digests r.digest number after → WalkedTo s digests before more (number + 1) r.next
+      unfolding BallotFramed Framed Hashes first_fault numbers_after entered record_length position
+      walked_more r read more em =
+          let t = read.0 in
+          let f = frame_here (Ok tt) t in
           let e : ballot_length n (kind_at s at) ≡ ballot_length (header s).n (kind s (header s) w.k) = rw (← w.here, ← h.processes) in
           record {
             k = suc w.k;
             next = omega (arith, w.next);
             few = below;
-            here = rw (place_record s (header s) 0 w.k, ← e, ← w.here) d.0;
-            fits = rw d.0 t.0.0;
+            here = rw (place_record s (header s) 0 w.k, ← e, ← w.here) read.1;
+            fits = rw read.1 t.0.0;
             long = rw em (length_table _ _);
             sound = extend (λ j. frame_fault s j ≡ 0) w.k w.sound (rw (le-leb _ _ f.0.0, f.0.1, f.0.2, f.1));
-            entered = cc (em, d.1, e, w.here, w.next, w.entered);
+            entered = cc (em, read.2, e, w.here, w.next, w.entered);
           }
 
-    pub walked_all : K + 1 ≤ number → Walked s digests before after Sound
+    pub walked_all : K + 1 ≤ number → Walked s digests before after (Ok tt)
     unfolding Walked
     walked_all l =
         let e : w.k ≡ (header s).K = omega (arith, h.ballots, w.next, w.few) in

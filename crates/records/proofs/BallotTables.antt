@@ -1,7 +1,7 @@
 -- The tests of the BA and SH records at a place, as the code goes through them.
 use Prim.Native.Nat.{ℕ, ◌+◌, ◌*◌, ◌-◌, ◌<◌}
 use mathlib.Core.Path.{◌≡◌, sym, ap, ◌∙◌}
-use mathlib.Core.Bool.{Bool, ◌&&◌, and_assoc}
+use mathlib.Core.Bool.{Bool, true, ◌&&◌, and_assoc}
 use mathlib.Core.List.{List}
 use native.Mathlib.Nat.{mul-one, add_assoc}
 use native.Mathlib.Omega.{arith}
@@ -11,7 +11,13 @@ use Rattle.numbers.proofs.Tests.{all_grid, all_same, all_add}
 use Rattle.sha256.specs.Message.{sha256}
 use Rattle.group.specs.Elements.{parameters_of}
 use Rattle.rules.specs.Bytes.{number2, number4}
-use Rattle.rules.specs.Records.{SH, kind_at, counted_length, shift_length}
+use Rattle.rules.specs.Records.{SH, kind_at, counted_length, ballot_length, shift_length}
+use Rattle.rules.specs.Tests.{first_fault}
+use Rattle.rules.specs.Answers.{refusal_number}
+use Rattle.rules.specs.declared.Refusal.{Refusal}
+use Rattle.std.specs.Prelude.{Err}
+use Rattle.frames.specs.Framed.{Framed, BallotFramed}
+use borrow.Author.Tests.{le-leb}
 use Rattle.rules.specs.Proofs.{proof_fields}
 use Rattle.rules.specs.Claims.{matrix_at, entry_claim, row_claim, column_claim}
 use Rattle.rules.specs.Count.{is_ranking}
@@ -21,11 +27,11 @@ use Rattle.rules.specs.Shift.{shift_fields, shift_holds, shift_fault}
 use Rattle.statements.specs.Walks.{pair_fields, branch_fields}
 use Rattle.statements.proofs.Lines.{by_row, by_column_of, all_lines}
 use Rattle.header.specs.declared.Head.{Head}
-use Rattle.header.specs.Heads.{head_of}
+use Rattle.rules.specs.Header.{ranked}
+use Rattle.header.specs.Heads.{head_of, HeaderKnown}
 use Rattle.openings.specs.Shown.{opens_at}
 use Rattle.openings.proofs.Matrices.{matrix_shown}
-use Rattle.records.proofs.FiveTests.{FiveTests}
-use Rattle.records.proofs.SevenTests.{SevenTests}
+use Rattle.records.proofs.Tested.{Tested}
 use Rattle.records.specs.Parts.{ballot_fields_at, shown_at, proof_at, entry_good, line_good, ballot_proofs_at, shift_fields_at, shift_proof_at}
 
 -- proofs of one shape, one after another, are branches one after another
@@ -106,18 +112,38 @@ module _ (s : List ℕ) (h : Head) (at : ℕ) where
   unfolding opens_as_shown
   shown_is some = ap (λ (t : Bool). is_ranking h.n (shown_ranking s h.n at) && t) (matrix_shown s (parameters_of h.setup.group) h.n (at + 5) (at + counted_length h.n) some)
 
-  pub ballot_table : 0 < h.n → (number : ℕ) →
-      SevenTests s at h.n number (ballot_fields_at s h.n h.setup.group.p h.setup.group.q at (kind_at s at)) (ballot_proofs_at s h at)
-      (shown_at s (parameters_of h.setup.group) h.n at (kind_at s at)) (ballot_fault sha256 s (head_of s h) at number)
-  unfolding ballot_fault
-  ballot_table some number = record { table = rw (fields_are, proofs_are, shown_is some) }
+  ballot_refused : 0 < h.n → (number : ℕ) (w : Refusal) → BallotFramed s at h.n number (Err w) → ballot_fault sha256 s (head_of s h) at number ≡ refusal_number w
+  unfolding ballot_fault BallotFramed
+  ballot_refused some number w f = rw (fields_are, proofs_are, shown_is some) (f _)
+
+  pub ballot_table : HeaderKnown ranked s h → (number : ℕ) →
+      Tested s (ballot_fault sha256 s (head_of s h) at number) (at + ballot_length h.n (kind_at s at)) (BallotFramed s at h.n number)
+      (ballot_fields_at s h.n h.setup.group.p h.setup.group.q at (kind_at s at)) (ballot_proofs_at s h at) (shown_at s (parameters_of h.setup.group) h.n at (kind_at s at))
+  unfolding ballot_fault BallotFramed Framed first_fault
+  ballot_table known number =
+      let some : 0 < h.n = omega (arith, known.low) in record {
+        refused = ballot_refused some number;
+        fits = λ f. f.0.0;
+        rest = λ f. rw (fields_are, proofs_are, shown_is some, le-leb _ _ f.0.0, f.0.1, f.0.2, f.1);
+      }
 
   shift_fields_are : (rows : ℕ) → shift_fields s (head_of s h) rows at ≡ shift_fields_at s h.n h.setup.group.p h.setup.group.q at rows
   unfolding shift_fields
   shift_fields_are rows = rw (pairs_are (at + 4) rows)
 
+  shift_refused : (rows round a before number : ℕ) (w : Refusal) → Framed s at (shift_length h.n rows) SH (number2 s (at + 2)) number (Err w) →
+      shift_fault sha256 s (head_of s h) rows at round a before number ≡ refusal_number w
+  unfolding shift_fault shift_holds Framed
+  shift_refused rows round a before number w f = rw (shift_fields_are rows) (f _)
+
   pub shift_table : (rows round a before number : ℕ) →
-      FiveTests s at (shift_length h.n rows) SH (number2 s (at + 2)) number (shift_fields_at s h.n h.setup.group.p h.setup.group.q at rows)
-      (shift_proof_at s h before at rows round (a - 1)) (shift_fault sha256 s (head_of s h) rows at round a before number)
-  unfolding shift_fault shift_holds
-  shift_table rows round a before number = record { table = rw (shift_fields_are rows) }
+      Tested s (shift_fault sha256 s (head_of s h) rows at round a before number) (at + shift_length h.n rows)
+      (Framed s at (shift_length h.n rows) SH (number2 s (at + 2)) number)
+      (shift_fields_at s h.n h.setup.group.p h.setup.group.q at rows) (shift_proof_at s h before at rows round (a - 1)) true
+  unfolding shift_fault shift_holds Framed first_fault
+  shift_table rows round a before number =
+      record {
+        refused = shift_refused rows round a before number;
+        fits = λ f. f.0;
+        rest = λ f. rw (shift_fields_are rows, le-leb _ _ f.0, f.1, f.2);
+      }

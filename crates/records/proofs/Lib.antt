@@ -1,4 +1,4 @@
 -- The tests of the BA and SH records.
-pub mod FiveTests
-pub mod SevenTests
+pub mod Tested
 pub mod BallotTables
+pub mod Ranges

@@ -1,6 +1,5 @@
 // The BA record.
-ghost use Rattle.std.specs.Prelude.{◌≡◌, ◌+◌, ◌*◌, ◌≤◌, length};
-ghost use Rattle.numbers.specs.Below.{all_below};
+ghost use Rattle.std.specs.Prelude.{◌≡◌, ◌+◌, ◌*◌, ◌≤◌, ◌<◌, length};
 ghost use Rattle.sha256.specs.Message.{sha256};
 ghost use Rattle.group.specs.Elements.{parameters_of};
 ghost use Rattle.rules.specs.Records.{kind_at, counted_length, ballot_length};
@@ -10,141 +9,112 @@ ghost use Rattle.header.specs.Heads.{head_of, HeaderKnown};
 ghost use Rattle.records.specs.Passes.{Passes};
 ghost use Rattle.records.specs.Parts.{entry_good, line_good, ballot_proofs_at, ballot_fields_at, shown_at};
 
-use crate::Passed;
-use frames::Fault;
 use header::Head;
 use rules::Refusal;
 use statements::claims::Claim;
 use statements::proof::Shape;
-use statements::walks::Walk;
 use statements::{claims, walks};
 
-fn entries_good(board: &[u8], h: Head, at: usize) -> bool
-    requires { HeaderKnown ranked board.now h × (at + counted_length h.n ≤ length board.now) }
-    ensures { result ≡ all_below (h.n * h.n) (entry_good board.now h at) }
-{
-    let head = h;
-    let n = h.n;
-    let no_inverses = [0u32; 0];
-    let label = crate::labelled(board);
-    let number = fields::number2(board, at + 2);
-    let first = at + 5 + 8 * (n * n);
-    let count = n * n;
-    for t in 0..count {
-        let prefix = challenges::feed_context(label, layout::BA, number, 1, t);
+// A BA record on the board, of a kind.
+#[derive(Clone, Copy)]
+struct Ballot<'a> {
+    board: &'a [u8],
+    h: Head,
+    at: usize,
+    kind: usize,
+    ghost known: { HeaderKnown ranked board.now h },
+    ghost fits: { at + ballot_length h.n kind ≤ length board.now },
+}
+
+impl<'a> Ballot<'a> {
+    // The proof of entry t, by rows.
+    fn entry_good(&self, t: usize) -> bool
+        requires { t < self.now.h.n * self.now.h.n }
+        ensures { result ≡ entry_good self.now.board.now self.now.h self.now.at t }
+    {
+        let prefix = crate::prefix(self.board, self.at, layout::BA, 1, t);
         let shape = Shape {
-            at: first + 32 * t,
+            at: self.at + 5 + 8 * (self.h.n * self.h.n) + 32 * t,
             branches: 2,
             statements: 1,
         };
-        let claim = Claim::Entry { at: at + 5 + 8 * t };
-        if !crate::proof_good(board, &no_inverses, prefix, shape, head, claim) {
-            return false;
-        }
+        let claim = Claim::Entry {
+            at: self.at + 5 + 8 * t,
+        };
+        crate::proof_good(self.board, &[], prefix, shape, self.h, claim)
     }
-    true
-}
 
-// The proofs of the rows and the columns.
-fn lines_good(board: &[u8], h: Head, at: usize) -> bool
-    requires { HeaderKnown ranked board.now h × (at + counted_length h.n ≤ length board.now) }
-    ensures { result ≡ all_below (h.n + h.n) (line_good board.now h at) }
-{
-    let head = h;
-    let n = h.n;
-    let no_inverses = [0u32; 0];
-    let label = crate::labelled(board);
-    let number = fields::number2(board, at + 2);
-    let first = at + 5 + 40 * (n * n);
-    let entries = n * n;
-    let count = n + n;
-    for t in 0..count {
-        let prefix = challenges::feed_context(label, layout::BA, number, 1, entries + t);
+    // The proof of row t, or of column t - n.
+    fn line_good(&self, t: usize) -> bool
+        requires { t < self.now.h.n + self.now.h.n }
+        ensures { result ≡ line_good self.now.board.now self.now.h self.now.at t }
+    {
+        let n = self.h.n;
+        let entries = n * n;
+        let prefix = crate::prefix(self.board, self.at, layout::BA, 1, entries + t);
         let shape = Shape {
-            at: first + 16 * t,
+            at: self.at + 5 + 40 * entries + 16 * t,
             branches: 1,
             statements: 1,
         };
         let line = claims::line_of(n, t);
         let claim = Claim::Line {
-            at: at + 5 + 8 * line.start,
+            at: self.at + 5 + 8 * line.start,
             stride: 8 * line.stride,
             count: n,
         };
-        if !crate::proof_good(board, &no_inverses, prefix, shape, head, claim) {
-            return false;
-        }
+        crate::proof_good(self.board, &[], prefix, shape, self.h, claim)
     }
-    true
-}
 
-fn ballot_proofs(board: &[u8], h: Head, at: usize) -> bool
-    requires { HeaderKnown ranked board.now h × (at + counted_length h.n ≤ length board.now) }
-    ensures { result ≡ ballot_proofs_at board.now h at }
-{
-    if !entries_good(board, h, at) {
-        return false;
+    fn proofs_good(&self) -> bool
+        ensures { result ≡ ballot_proofs_at self.now.board.now self.now.h self.now.at }
+    {
+        let n = self.h.n;
+        let count = n * n;
+        (0..count).all(|t| self.entry_good(t)) && (0..n + n).all(|t| self.line_good(t))
     }
-    lines_good(board, h, at)
-}
 
-// The fields of a record of a kind: its pairs and proofs, and the exponents that an audited one shows.
-fn ballot_fields(board: &[u8], h: Head, at: usize, kind: usize) -> bool
-    requires { HeaderKnown ranked board.now h × (at + ballot_length h.n kind ≤ length board.now) }
-    ensures { result ≡ ballot_fields_at board.now h.n h.setup.group.p h.setup.group.q at kind }
-{
-    let n = h.n;
-    let group = h.setup.group;
-    let branches = n * n * 2 + (n + n);
-    if !crate::fields_good(board, at + 5, n * n, branches, 1, group.p, group.q) {
-        return false;
+    // Its pairs and proofs, and the exponents that an audited one shows.
+    fn fields_good(&self) -> bool
+        ensures { result ≡ ballot_fields_at self.now.board.now self.now.h.n self.now.h.setup.group.p self.now.h.setup.group.q self.now.at self.now.kind }
+    {
+        let n = self.h.n;
+        let group = self.h.setup.group;
+        let branches = n * n * 2 + (n + n);
+        let shown = self.at + layout::counted_length(n);
+        crate::fields_good(self.board, self.at + 5, n * n, branches, 1, group)
+            && (self.kind != layout::AUDITED
+                || walks::exponents_fields(self.board, shown, n * n, group.q).is_some())
     }
-    if kind != layout::AUDITED {
-        return true;
-    }
-    let shown = at + layout::counted_length(n);
-    let Walk::To(_) = walks::exponents_fields(board, shown, n * n, group.q) else {
-        return false;
-    };
-    true
-}
 
-// What a record of a kind shows: of an audited one a ranking, to which and to its exponents its pairs open.
-fn shown_good(board: &[u8], h: Head, at: usize, kind: usize) -> bool
-    requires { HeaderKnown ranked board.now h × (at + ballot_length h.n kind ≤ length board.now) }
-    ensures { result ≡ shown_at board.now (parameters_of h.setup.group) h.n at kind }
-{
-    if kind != layout::AUDITED {
-        return true;
+    // What an audited one shows: a ranking, to which and to its exponents its pairs open.
+    fn shown_good(&self) -> bool
+        ensures { result ≡ shown_at self.now.board.now (parameters_of self.now.h.setup.group) self.now.h.n self.now.at self.now.kind }
+    {
+        let n = self.h.n;
+        let shown = self.at + layout::counted_length(n);
+        self.kind != layout::AUDITED
+            || openings::is_ranking(self.board, shown + 4 * (n * n), n)
+                && openings::matrix_opens(self.board, self.h.setup.group, n, self.at + 5, shown)
     }
-    let n = h.n;
-    let shown = at + layout::counted_length(n);
-    if !openings::is_ranking(board, shown + 4 * (n * n), n) {
-        return false;
-    }
-    openings::matrix_opens(board, h.setup.group, n, at + 5, shown)
 }
 
 // The record of the ballot with a number, at its place.
-pub fn read_ballot(board: &[u8], h: Head, at: usize, number: usize) -> Passed
+pub fn read_ballot(board: &[u8], h: Head, at: usize, number: usize) -> Result<usize, Refusal>
     requires { HeaderKnown ranked board.now h × (at ≤ length board.now) }
     ensures { Passes board.now (ballot_fault sha256 board.now (head_of board.now h) at number) (at + ballot_length h.n (kind_at board.now at)) result }
 {
-    let n = h.n;
+    frames::ballot_frame(board, at, h.n, number)?;
     let kind = frames::kind(board, at);
-    let size = layout::ballot_length(n, kind);
-    let framed = frames::ballot_frame(board, at, n, number);
-    if let Fault::Refused(why) = framed {
-        return Passed::Refused(why);
+    let ballot = Ballot { board, h, at, kind };
+    if !ballot.fields_good() {
+        return Err(Refusal::Field);
     }
-    if !ballot_fields(board, h, at, kind) {
-        return Passed::Refused(Refusal::Field);
+    if !ballot.proofs_good() {
+        return Err(Refusal::Proof);
     }
-    if !ballot_proofs(board, h, at) {
-        return Passed::Refused(Refusal::Proof);
+    if !ballot.shown_good() {
+        return Err(Refusal::Opening);
     }
-    if !shown_good(board, h, at, kind) {
-        return Passed::Refused(Refusal::Opening);
-    }
-    Passed::To(at + size)
+    Ok(at + layout::ballot_length(h.n, kind))
 }

@@ -8,12 +8,10 @@ ghost use Rattle.header.specs.Heads.{head_of, HeaderKnown};
 ghost use Rattle.records.specs.Passes.{Passes};
 ghost use Rattle.records.specs.Parts.{shift_proof_at};
 
-use crate::Passed;
-use frames::Fault;
 use header::Head;
 use rules::Refusal;
 use statements::claims;
-use statements::claims::Claim;
+use statements::claims::{Claim, Struck};
 use statements::proof::Shape;
 
 // The proof, that the row with its 1 in column a is struck, of the record of round m, from 0. The inverses of the matrix before are made once.
@@ -24,19 +22,17 @@ fn shift_proof(board: &[u8], h: Head, before: usize, at: usize, m: usize, a: usi
 {
     let n = h.n;
     let rows = n - m;
-    let group = h.setup.group;
     let pairs = rows * n;
+    let group = h.setup.group;
     let inverses = claims::inverse_table(board, group.p, group.q, before, 2 * (pairs + n));
-    let claim = Claim::Shift {
+    let claim = Claim::Shift(Struck {
         before,
         new: at + 4,
         rows,
         n,
         a,
-    };
-    let label = crate::labelled(board);
-    let number = fields::number2(board, at + 2);
-    let prefix = challenges::feed_context(label, layout::SH, number, numbers::low(m) + 1, 0);
+    });
+    let prefix = crate::prefix(board, at, layout::SH, (m + 1) as u8, 0);
     let shape = Shape {
         at: at + 4 + 8 * pairs,
         branches: rows + 1,
@@ -55,25 +51,21 @@ pub fn read_shift(
     before: usize,
     at: usize,
     number: usize,
-) -> Passed
+) -> Result<usize, Refusal>
     requires header_known { HeaderKnown ranked board.now h × (at ≤ length board.now) × (0 < m) × (m < h.n) × (1 ≤ a) × (a ≤ h.n) }
     requires n_in_bounds { before + 8 * ((h.n - m + 1) * h.n) ≤ length board.now }
     ensures { Passes board.now (shift_fault sha256 board.now (head_of board.now h) (h.n - m) at (m + 1) a before number) (at + shift_length h.n (h.n - m)) result }
 {
     let n = h.n;
     let rows = n - m;
-    let group = h.setup.group;
     let next = at + layout::shift_length(n, rows);
-    let framed = frames::shift_frame(board, at, n, rows, number);
-    if let Fault::Refused(why) = framed {
-        return Passed::Refused(why);
-    }
+    frames::shift_frame(board, at, n, rows, number)?;
     let pairs = rows * n;
-    if !crate::fields_good(board, at + 4, pairs, rows + 1, 2 + pairs, group.p, group.q) {
-        return Passed::Refused(Refusal::Field);
+    if !crate::fields_good(board, at + 4, pairs, rows + 1, 2 + pairs, h.setup.group) {
+        return Err(Refusal::Field);
     }
     if !shift_proof(board, h, before, at, m, a - 1) {
-        return Passed::Refused(Refusal::Proof);
+        return Err(Refusal::Proof);
     }
-    Passed::To(next)
+    Ok(next)
 }

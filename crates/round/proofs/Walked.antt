@@ -1,7 +1,7 @@
 -- The ballots' records of a round, read one after another.
 use Prim.Native.Nat.{ℕ, zero, suc, ◌+◌, ◌*◌, ◌-◌, ◌^◌, ◌≤◌, ◌<◌}
-use mathlib.Core.Path.{◌≡◌, refl, sym, ap, ◌∙◌}
-use mathlib.Core.Bool.{true}
+use mathlib.Core.Path.{◌≡◌, refl, sym, ap, ap₂, ◌∙◌}
+use mathlib.Core.Bool.{true, cond}
 use mathlib.Core.List.{List}
 use native.Mathlib.Nat.{add-zero, mul-le-mul_right}
 use native.Mathlib.Numerals.{add-one}
@@ -14,13 +14,12 @@ use Rattle.numbers.proofs.Tests.{by_cases}
 use Rattle.rules.specs.Records.{kind_at, is_counted, records_of, pairs_from, ballot_length, record_length}
 use Rattle.rules.specs.Header.{ranked, Header}
 use Rattle.rules.specs.Check.{Position, position, place, record_number, kind, counted_below, counted}
-use Rattle.rules.specs.declared.Refusal.{Refusal}
 use Rattle.rules.proofs.Faults.{no_fault, fault_at}
 use Rattle.rules.proofs.Positions.{holds_pairs, position_first, position_record, place_record, place_round, place_up, round_within, round_later, earlier_fits, number_first, number_later, few_counted, no_row_lem}
 use Rattle.rules.proofs.RefusalNumbers.{positive}
-use Rattle.frames.specs.declared.Fault.TheVariants.{Sound, Refused}
+use Rattle.std.specs.Prelude.{Ok, Err}
 use Rattle.header.specs.declared.Head.{Head}
-use Rattle.records.specs.declared.Passed.TheVariants as P
+use Rattle.rules.specs.declared.Refused.{Refused}
 use Rattle.records.specs.Passes.{Passes}
 use Rattle.sheets.specs.declared.tally.Tally.{Tally}
 use Rattle.header.specs.Heads.{head_of, HeaderKnown}
@@ -29,8 +28,8 @@ use Rattle.sheets.proofs.Products.{tallied_fewer}
 use Rattle.round.specs.declared.Round.{Round}
 use Rattle.round.specs.declared.Walk.{Walk}
 use Rattle.round.specs.Rounds.{Begins}
-use Rattle.round.specs.Walks.{Walked, Starts, RecordPasses, TallyAfter}
-use Rattle.round.specs.Outcomes.{Searched}
+use Rattle.round.specs.Walks.{Walked, Starts, RecordPasses, RecordReads, TallyAfter}
+use Rattle.round.specs.Outcomes.{RecordsReads}
 use Rattle.round.proofs.RecordAt.{kind_is}
 
 -- records have small numbers
@@ -66,6 +65,10 @@ module _ (s : List ℕ) (h : Head) (known : HeaderKnown ranked s h) (r : Round) 
     pub kind_read : (x : ℕ) → x ≡ kind_at s w.ballot → x ≡ kind s H w.k
     kind_read x e = e ∙ kind_is s H w.k w.ballot v.ballot_here
 
+    -- the counted ones with the ballot that is next
+    pub counted_with : (x : ℕ) → x ≡ w.tally.ballots + cond (is_counted (kind_at s w.ballot)) 1 0 → x ≡ counted_below s H w.k + cond (is_counted (kind s H w.k)) 1 0
+    counted_with x e = e ∙ ap₂ (λ (x y : ℕ). x + cond (is_counted y) 1 0) v.counted (kind_is s H w.k w.ballot v.ballot_here)
+
     pub few_ballots : w.k < h.k → w.tally.ballots < 1000
     few_ballots l = omega (arith, v.counted, few_counted s H w.k, known.few)
 
@@ -91,7 +94,7 @@ module _ (s : List ℕ) (h : Head) (known : HeaderKnown ranked s h) (r : Round) 
         let up : 1 * h.n ≤ (h.n - r.m) * h.n = mul-le-mul_right h.n (omega arith) in
         omega (arith, holds_pairs h.n (kind s H w.k) r.m (at) c)
 
-    module _ (next : ℕ) (p : RecordPasses s h r.a r.m w.k (at) (P.To next)) (l : w.k < h.k) where
+    module _ (next : ℕ) (p : RecordPasses s h r.a r.m w.k (at) (Ok next)) (l : w.k < h.k) where
       -- where the next ballot's BA stands
       ballot_next : (long : ℕ) → long ≡ ballot_length h.n (kind s H w.k) → w.ballot + long ≡ place s H 0 (w.k + 1)
       unfolding record_length
@@ -142,14 +145,13 @@ module _ (s : List ℕ) (h : Head) (known : HeaderKnown ranked s h) (r : Round) 
             sound = below_more _ _ v.sound p.0;
           }
 
-    pub searched_refused : w.k < h.k → (why : Refusal) → RecordPasses s h r.a r.m w.k (at) (P.Refused why) →
-        Searched s h r.a r.m (Refused why) (at) w.number w.tally
-    unfolding Searched Passes
-    searched_refused l why f =
-        (w.k, l, rw (← f) (fault_at h.k _ w.k l v.sound (λ z. omega (arith, positive why))), v.here, v.fits, v.numbered, v.tallied)
+    pub records_refused : w.k < h.k → (e : Refused) → RecordReads s h r w at (Err e) → RecordsReads s h r.a r.m (Err e)
+    unfolding RecordsReads RecordReads Passes
+    records_refused l e f =
+        (w.k, l, rw (← f.0) (fault_at h.k _ w.k l v.sound (λ z. omega (arith, positive e.refusal))), f.1 ∙ v.numbered)
 
-    pub searched_all : h.k ≤ w.k → Searched s h r.a r.m Sound (at) w.number w.tally
-    unfolding Searched
-    searched_all l =
+    pub records_read : h.k ≤ w.k → RecordsReads s h r.a r.m (Ok (record { next = at; number = w.number; tally = w.tally }))
+    unfolding RecordsReads
+    records_read l =
         let e : w.k ≡ h.k = omega (arith, v.few) in
         (no_fault _ _ (λ j b. v.sound j (omega arith)), rw e at v.here, v.fits, rw e at v.numbered, rw e at v.tallied, rw e at v.counted)

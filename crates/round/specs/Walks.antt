@@ -1,5 +1,5 @@
 -- How far a round is read.
-use Rattle.std.specs.Prelude.{ℕ, suc, ◌+◌, ◌≤◌, ◌<◌, ◌≡◌, List, length}
+use Rattle.std.specs.Prelude.{ℕ, suc, ◌+◌, ◌≤◌, ◌<◌, ◌≡◌, List, length, Result, Ok, Err}
 use Rattle.sha256.specs.Message.{sha256}
 use Rattle.rules.specs.Records.{header_length, pairs_from, record_length}
 use Rattle.rules.specs.Claims.{matrix_at}
@@ -7,7 +7,8 @@ use Rattle.rules.specs.Sheet as said
 use Rattle.rules.specs.Check.{position, place, record_number, kind, counted_below, record_fault}
 use Rattle.header.specs.declared.Head.{Head}
 use Rattle.header.specs.Heads.{head_of}
-use Rattle.records.specs.declared.Passed.{Passed}
+use Rattle.rules.specs.declared.Refusal.{Refusal}
+use Rattle.rules.specs.declared.Refused.{Refused}
 use Rattle.records.specs.Passes.{Passes}
 use Rattle.sheets.specs.declared.tally.Tally.{Tally}
 use Rattle.sheets.specs.Tallies.{Tallied}
@@ -39,8 +40,13 @@ pub record Starts (h : Head) (r : Round) (w : Walk) : Type 0 where
   pub uncounted : w.tally.ballots ≡ 0
 
 -- what ballot k has in round m, at a place, comes to
-abbrev pub RecordPasses : (s : List ℕ) → Head → (a m k at : ℕ) → Passed → Type 0
+abbrev pub RecordPasses : (s : List ℕ) → Head → (a m k at : ℕ) → Result ℕ Refusal → Type 0
 RecordPasses s h a m k at = Passes s (record_fault sha256 s (head_of s h) a m k) (at + record_length h.n (kind s (head_of s h) k) m)
+
+-- what the ballot that is next has, at a place, comes to; refused, it has its record's number
+unfoldable pub RecordReads : (s : List ℕ) → Head → Round → Walk → (at : ℕ) → Result ℕ Refused → Type 0
+RecordReads s h r w at (Ok next) = RecordPasses s h r.a r.m w.k at (Ok next)
+RecordReads s h r w at (Err e) = RecordPasses s h r.a r.m w.k at (Err e.refusal) × (e.record ≡ w.number)
 
 -- the products with the first row of the record at a place, where its ballot is counted
 pub record TallyAfter (s : List ℕ) (h : Head) (m kind at : ℕ) (before after : Tally) : Type 0 where

@@ -1,17 +1,12 @@
 -- The number and the values of each case of the code's answers.
-use Rattle.std.specs.Prelude.{ℕ, ◌-◌, List, ◌++◌, length, take, replicate}
+use Rattle.std.specs.Prelude.{ℕ, ◌-◌, List, ◌++◌, length, take, replicate, Result, Ok, Err}
 use Rattle.rules.specs.Check.{Verdict, accepted, refused}
 use Rattle.rules.specs.Receipts.{Finding, numbers_found, find_refused}
 use Rattle.rules.specs.Notice.{Telling, text_told, text_refused}
 use Rattle.rules.specs.declared.Refusal.{Refusal}
 use Rattle.rules.specs.declared.Refusal.TheVariants as R
-use Rattle.rules.specs.declared.Answer.{Answer}
-use Rattle.rules.specs.declared.Answer.TheVariants as A
-use Rattle.rules.specs.declared.Checked.{Checked}
-use Rattle.rules.specs.declared.Found.{Found}
-use Rattle.rules.specs.declared.Found.TheVariants as F
-use Rattle.rules.specs.declared.Told.{Told}
-use Rattle.rules.specs.declared.Told.TheVariants as T
+use Rattle.rules.specs.declared.Accepted.{Accepted}
+use Rattle.rules.specs.declared.Refused.{Refused}
 
 abbrev pub refusal_number : Refusal → ℕ
 refusal_number R.Length = 1
@@ -38,12 +33,9 @@ refusal_number R.Names = 21
 refusal_number R.Limits = 23
 
 -- the checker's answer; of the array of 8 the first rounds - 1 are the order
-abbrev pub answer_of : Answer → (order : List ℕ) → Verdict
-answer_of (A.Accepted rounds winner) order = accepted rounds (take (rounds - 1) order) winner
-answer_of (A.Refused refusal number) order = refused (refusal_number refusal) number
-
-abbrev pub verdict_of : Checked → Verdict
-verdict_of r = answer_of r.answer r.order
+abbrev pub verdict_of : Result Accepted Refused → Verdict
+verdict_of (Ok a) = accepted a.rounds (take (a.rounds - 1) a.order) a.winner
+verdict_of (Err e) = refused (refusal_number e.refusal) e.record
 
 -- what the array of 8 holds: the order of going out, then zeros
 unfoldable pub with_zeros : (order : List ℕ) → List ℕ
@@ -55,11 +47,11 @@ order_of (accepted rounds order winner) = with_zeros order
 order_of (refused refusal number) = replicate 8 0
 
 -- the answer to digests; the numbers stand at the front of the lent list
-abbrev pub finding_of : Found → (numbers : List ℕ) → Finding
-finding_of F.Listed numbers = numbers_found numbers
-finding_of (F.Refused refusal number) numbers = find_refused (refusal_number refusal) number
+abbrev pub finding_of : Result (Unit {0}) Refused → (numbers : List ℕ) → Finding
+finding_of (Ok _) numbers = numbers_found numbers
+finding_of (Err e) numbers = find_refused (refusal_number e.refusal) e.record
 
--- the answer to names; the text stands at the front of the lent output
-abbrev pub telling_of : Told → (out : List ℕ) → Telling
-telling_of (T.Text long) out = text_told long (take long out)
-telling_of (T.Refused refusal number) out = text_refused (refusal_number refusal) number
+-- the answer to names; the text of so many bytes stands at the front of the lent output
+abbrev pub telling_of : Result ℕ Refused → (out : List ℕ) → Telling
+telling_of (Ok long) out = text_told long (take long out)
+telling_of (Err e) out = text_refused (refusal_number e.refusal) e.record

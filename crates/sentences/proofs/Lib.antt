@@ -1,6 +1,6 @@
 -- Laws that the proofs of `sentences` cite.
-pub mod Numbers
 pub mod Puts
-pub mod Listing
+pub mod Numbers
 pub mod Rounds
+pub mod Listing
 pub mod Texts

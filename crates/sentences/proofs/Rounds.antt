@@ -1,6 +1,7 @@
 -- What the line of a round tells, by the count that has ended.
-use Prim.Native.Nat.{ℕ, ◌+◌, ◌≤◌, ◌<◌}
+use Prim.Native.Nat.{ℕ, ◌+◌, ◌*◌, ◌-◌, ◌≤◌}
 use mathlib.Core.Path.{◌≡◌, sym, ap, ◌∙◌}
+use mathlib.Core.Bool.{Bool, true, false, cond}
 use mathlib.Core.List.{List, [], ◌++◌}
 use native.Mathlib.Omega.{arith}
 use lib.Dec.{eqb}
@@ -11,14 +12,15 @@ use Rattle.numbers.proofs.Tests.{by_cases}
 use Rattle.rules.specs.Sentences.{opening, count_texts, ending, is_last, who_in, line}
 use Rattle.rules.specs.Notice.{name_of}
 use Rattle.count.specs.declared.Ended.{Ended}
+use Rattle.count.specs.declared.Gone.{Gone}
 use Rattle.count.specs.declared.Sheet.{Sheet}
 use Rattle.count.specs.State.{counts_on, list_of, result_of, Kept}
 use Rattle.count.proofs.Comparison.{map_at}
-use Rattle.names.specs.Lent.{Started}
-use Rattle.names.proofs.Starting.{started_fewer}
+use Rattle.rules.proofs.Lines.{ending_long}
+use Rattle.names.proofs.Starting.{name_few}
 use Rattle.sentences.specs.declared.Named.{Named}
-use Rattle.sentences.specs.declared.lines.Line.{Line}
-use Rattle.sentences.specs.Lines.{line_named, Ready, LineOf}
+use Rattle.sentences.specs.Lines.{result_named, line_named}
+use Rattle.sentences.specs.Pieces.{SinkLaws}
 
 module _ (n : ℕ) (e : Ended) (m : ℕ) (k : Kept e.count) (l : m ≤ e.count.gone.outs) where
   pub who_wins : m ≡ e.count.gone.outs → e.winner ≡ who_in (result_of n e) m
@@ -50,24 +52,59 @@ module _ (n : ℕ) (e : Ended) (m : ℕ) (k : Kept e.count) (l : m ≤ e.count.g
       ∙ rw (get_or-take (outs + 1) e.count.sheets m d (omega arith)))
 
 -- ---- the line of a round, by its parts
-module _ (lent : List ℕ) (x : Named) (m : ℕ) (l : Line) (w : LineOf x.n x.ended m l) where
-  abbrev pub line_parts : List ℕ
-  line_parts = opening m ++ count_texts (name_of lent) x.n (list_of l.gone) (counts_on x.n l.sheet) ++ ending l.last (name_of lent l.who)
+verb_few : (last : Bool) → cond last 6 8 ≤ 8
+verb_few true = omega arith
+verb_few false = omega arith
 
-  pub line_is : line_parts ≡ line_named lent x m
+-- those gone out before round m of a count, and the name of who leaves or wins in it
+pub record Told (x : Named) (m : ℕ) (gone : Gone) (name : List ℕ) : Type 0 where
+  pub inside : m ≤ x.ended.count.gone.outs
+  pub gone_is : list_of gone ≡ take m x.ended.count.gone.order
+  pub name_is : name ≡ name_of x.names.lent.now (who_in (result_named x) m - 1)
+
+module _ {x : Named} {m : ℕ} {gone : Gone} {name : List ℕ} (told : Told x m gone name) where
+  abbrev pub counts_part : List ℕ
+  counts_part = count_texts (name_of x.names.lent.now) x.names.count (list_of gone) (counts_on x.names.count (get_or x.ended.count.sheets m (record { counts = [] })))
+
+  abbrev pub ending_part : List ℕ
+  ending_part = ending (eqb m x.ended.count.gone.outs) name
+
+  pub line_is : opening m ++ counts_part ++ ending_part ≡ line_named x m
   unfolding line
-  line_is = rw (w.gone_is, w.counts_are, w.last_is, w.who_is)
+  line_is =
+      let n = x.names.count in
+      let k = x.finished.kept in
+      let l = told.inside in
+      rw (
+        told.name_is,
+        is_last_lem n x.ended m k l,
+        told.gone_is,
+        gone_before n x.ended m k l,
+        counts_of_lem n x.ended m k l x.finished.few,
+      )
 
-  pub parts_long : length (line_named lent x m)
-      ≡ length (opening m) + length (count_texts (name_of lent) x.n (list_of l.gone) (counts_on x.n l.sheet)) + length (ending l.last (name_of lent l.who))
-  parts_long =
-      let counts = count_texts (name_of lent) x.n (list_of l.gone) (counts_on x.n l.sheet) in
-      let end = ending l.last (name_of lent l.who) in
-      ap length (sym line_is) ∙ length-append (opening m ++ counts) end ∙ ap (λ (t : ℕ). t + length end) (length-append (opening m) counts)
+  pub name_short : length name ≤ 20
+  name_short =
+      let names = x.names in
+      rw told.name_is
+      (name_few names.lent.now names.starts names.count _ names.started (omega (arith, x.finished.low m told.inside, x.finished.high m told.inside)))
 
-  -- whoever leaves or wins has a name
-  pub who_named : Ready lent x → m ≤ x.ended.count.gone.outs → l.who < x.n
-  who_named r h = omega (arith, w.who_is, r.finished.low m h, r.finished.high m h)
+  pub line_few : length (opening m) ≤ 18 → length counts_part ≤ 40 * x.names.count → length (line_named x m) ≤ 400
+  line_few o c =
+      let few = x.names.started.few in
+      let last = ending_long (eqb m x.ended.count.gone.outs) name in
+      let verb = verb_few (eqb m x.ended.count.gone.outs) in
+      omega (arith, ap length line_is, name_short, length-append (opening m ++ counts_part) ending_part, length-append (opening m) counts_part)
 
-  pub name_started : Ready lent x → m ≤ x.ended.count.gone.outs → Started lent (l.who + 1) x.starts
-  name_started r h = started_fewer lent x.starts x.n (l.who + 1) r.started (omega (arith, who_named r h))
+  module _ {X : Type 0} {fits : X → List ℕ → Type 0} {took : X → List ℕ → X → Type 0} (laws : SinkLaws fits took) {s : X} (all : fits s (line_named x m)) where
+    whole : fits s (opening m ++ counts_part ++ ending_part)
+    whole = rw line_is all
+
+    pub opening_fits : fits s (opening m)
+    opening_fits = laws.front _ _ counts_part (laws.front _ _ ending_part whole)
+
+    pub counts_fit : {t : X} → took s (opening m) t → fits t counts_part
+    counts_fit p = laws.rest _ _ (opening m) counts_part (laws.front _ _ ending_part whole) p
+
+    pub ending_fits : {t u : X} → took s (opening m) t → took t counts_part u → fits u ending_part
+    ending_fits p q = laws.rest _ _ (opening m ++ counts_part) ending_part whole (laws.both _ _ _ _ _ p q)

@@ -1,48 +1,46 @@
 // The count in sentences: a line a round, measured and written.
 #![tactic(auto)]
 
-ghost use Rattle.std.specs.Prelude.{◌≡◌, ◌≤◌, length};
-ghost use Rattle.output.specs.Written.{written};
-ghost use Rattle.sentences.specs.Lines.{Ready, text_named};
+ghost use Rattle.sentences.specs.Finished.{Finished};
 
 use count::Ended;
+use names::Names;
+use sink::{Length, Rest};
 
 mod counts;
 mod decimal;
 mod lines;
 mod parts;
+mod sink;
 
-// A count of n processes that has ended, and where their names start.
+// A count that has ended, with the names of its processes.
 #[derive(Clone, Copy)]
-pub struct Named {
-    pub n: usize,
-    pub starts: [usize; 9],
+pub struct Named<'a> {
+    pub names: Names<'a>,
     pub ended: Ended,
+    pub ghost finished: { Finished names.count ended },
 }
 
-// The length of the text.
-pub fn text_length(lent: &[u8], x: Named) -> usize
-    requires { Ready lent.now x }
-    ensures { result ≡ length (text_named lent.now x) }
-{
-    let named = x;
-    let rounds = x.ended.count.gone.outs + 1;
-    let mut length = 0;
-    for m in 0..rounds {
-        length += lines::line_length(lent, named, m);
+impl Named<'_> {
+    ghost use Rattle.std.specs.Prelude.{◌≡◌, ◌≤◌, length};
+    ghost use Rattle.output.specs.Written.{written};
+    ghost use Rattle.sentences.specs.Lines.{text_named};
+
+    // The length of the text.
+    pub fn text_length(&self) -> usize
+        ensures { result ≡ length (text_named self.now) }
+    {
+        let mut sink = Length(0);
+        lines::put_lines(&mut sink, self);
+        sink.0
     }
-    length
-}
 
-// The text, to the front of an output that it fits into, line after line.
-pub fn put_text(out: &mut [u8], lent: &[u8], x: Named)
-    requires { Ready lent.now x × (length (text_named lent.now x) ≤ length out.old) }
-    ensures { out.new ≡ written (text_named lent.now x) out.old }
-{
-    let named = x;
-    let rounds = x.ended.count.gone.outs + 1;
-    let mut at = 0;
-    for m in 0..rounds {
-        at = lines::put_line(out, at, lent, named, m);
+    // The text, to the front of an output that it fits into, line after line.
+    pub fn put_text(&self, out: &mut [u8])
+        requires { length (text_named self.now) ≤ length out.old }
+        ensures { out.new ≡ written (text_named self.now) out.old }
+    {
+        let mut sink = Rest { out, at: 0 };
+        lines::put_lines(&mut sink, self);
     }
 }

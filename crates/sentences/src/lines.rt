@@ -1,75 +1,48 @@
-// The line of a round.
-ghost use Rattle.std.specs.Prelude.{◌≡◌, ℕ, ◌+◌, ◌≤◌, length};
+// The lines of the rounds.
+ghost use Rattle.std.specs.Prelude.{◌≡◌, ℕ, ◌≤◌, length};
 ghost use Rattle.rules.specs.Sentences.{who_in};
 ghost use Rattle.count.specs.State.{result_of, Kept};
-ghost use Rattle.sentences.specs.Pieces.{Put};
-ghost use Rattle.sentences.specs.Lines.{LineOf, Ready, line_named};
+ghost use Rattle.sentences.specs.Lines.{line_named, text_named};
 
+use crate::sink::Sink;
 use crate::{Named, counts, parts};
-use count::{Ended, Gone, Sheet};
-
-// What a round's line tells: those gone out before it, its counts, and whether it is the last; who, from 0, leaves or wins.
-#[derive(Clone, Copy)]
-pub struct Line {
-    pub gone: Gone,
-    pub sheet: Sheet,
-    pub last: bool,
-    pub who: usize,
-}
+use count::Ended;
 
 // Who leaves in round m, from 0, or wins in the last; from 1.
-fn who_in(ended: Ended, m: usize) -> usize
-    requires { Kept ended.count × (m ≤ ended.count.gone.outs) × (ended.count.gone.outs ≤ 7) }
-    ensures { (n : ℕ) → result ≡ who_in (result_of n ended) m }
+fn who_in(ended: &Ended, m: usize) -> usize
+    requires { Kept ended.now.count × (m ≤ ended.now.count.gone.outs) × (ended.now.count.gone.outs ≤ 7) }
+    ensures { (n : ℕ) → result ≡ who_in (result_of n ended.now) m }
 {
-    let gone = ended.count.gone;
+    let gone = &ended.count.gone;
     if m == gone.outs {
-        return ended.winner;
-    }
-    let order = gone.order;
-    numbers::wide(order[m])
-}
-
-fn line_of(x: Named, m: usize) -> Line
-    requires { Kept x.ended.count × (m ≤ x.ended.count.gone.outs) × (x.ended.count.gone.outs ≤ 7) × (1 ≤ who_in (result_of x.n x.ended) m) }
-    ensures { LineOf x.n x.ended m result }
-{
-    let ended = x.ended;
-    let count = ended.count;
-    let sheets = count.sheets;
-    let order = count.gone.order;
-    let gone = count::first_of(order, m);
-    let sheet = sheets[m];
-    Line {
-        gone,
-        sheet,
-        last: m == count.gone.outs,
-        who: who_in(ended, m) - 1,
+        ended.winner
+    } else {
+        usize::from(gone.order[m])
     }
 }
 
-pub fn line_length(lent: &[u8], x: Named, m: usize) -> usize
-    requires { Ready lent.now x × (m ≤ x.ended.count.gone.outs) }
-    ensures { (result ≡ length (line_named lent.now x m)) × (result ≤ 400) }
+// The line of round m: the counts of those not gone out before it, and who leaves or wins.
+fn put_line<S: Sink>(sink: &mut S, x: &Named<'_>, m: usize)
+    requires { (m ≤ x.now.ended.count.gone.outs) × S.fits sink.old (line_named x.now m) }
+    ensures taken { S.took sink.old (line_named x.now m) sink.new }
+    ensures few { length (line_named x.now m) ≤ 400 }
 {
-    let line = line_of(x, m);
-    let gone = line.gone;
-    let sheet = line.sheet;
-    let starts = x.starts;
-    let counts = counts::counts_length(lent, starts, x.n, gone, sheet);
-    let ending = parts::ending_length(names::name(lent, starts, line.who), line.last);
-    parts::opening_length(m) + counts + ending
+    let count = &x.ended.count;
+    let gone = count::first_of(count.gone.order, m);
+    let last = m == count.gone.outs;
+    let who = x.names.name(who_in(&x.ended, m) - 1);
+    parts::put_opening(sink, m);
+    counts::put_counts(sink, &x.names, gone, count.sheets[m]);
+    parts::put_ending(sink, who, last);
 }
 
-pub fn put_line(out: &mut [u8], at: usize, lent: &[u8], x: Named, m: usize) -> usize
-    requires { Ready lent.now x × (m ≤ x.ended.count.gone.outs) × (at + length (line_named lent.now x m) ≤ length out.old) }
-    ensures { Put (line_named lent.now x m) at out.old out.new result }
+// A line a round.
+pub fn put_lines<S: Sink>(sink: &mut S, x: &Named<'_>)
+    requires { S.fits sink.old (text_named x.now) }
+    ensures taken { S.took sink.old (text_named x.now) sink.new }
+    ensures few { length (text_named x.now) ≤ 3200 }
 {
-    let line = line_of(x, m);
-    let gone = line.gone;
-    let sheet = line.sheet;
-    let starts = x.starts;
-    let counts = parts::put_opening(out, at, m);
-    let end = counts::put_counts(out, counts, lent, starts, x.n, gone, sheet);
-    parts::put_ending(out, end, names::name(lent, starts, line.who), line.last)
+    for m in 0..x.ended.count.gone.outs + 1 {
+        put_line(sink, x, m);
+    }
 }

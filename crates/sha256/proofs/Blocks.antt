@@ -16,7 +16,7 @@ blocks_append v m x (suc n) h =
     (ap (take 64) (drop-append-le (n * 64) m x (omega arith)) ∙ take-append-le 64 (drop (n * 64) m) x h64)
 
 -- blocks go on where they stopped
-blocks_on : (v m : List ℕ) (n k : ℕ) → blocks (blocks v m n) (drop (n * 64) m) k ≡ blocks v m (n + k)
+pub blocks_on : (v m : List ℕ) (n k : ℕ) → blocks (blocks v m n) (drop (n * 64) m) k ≡ blocks v m (n + k)
 unfolding blocks
 blocks_on v m n zero = simp unary_clauses refl
 blocks_on v m n (suc k) =

@@ -11,14 +11,13 @@ use borrow.Author.Tests.{eq-eqb, ne_eqb}
 use Rattle.group.specs.declared.Exponent.{Exponent}
 use Rattle.rules.specs.Count.{Result, ended, leaves, closes}
 use Rattle.rules.specs.Tests.{first_fault}
-use Rattle.rules.specs.Answers.{refusal_number}
-use Rattle.rules.specs.declared.Refusal.{Refusal}
 use Rattle.rules.specs.declared.Refusal.TheVariants as R
 use Rattle.count.specs.declared.Count.{Count}
 use Rattle.count.specs.declared.Ended.{Ended}
 use Rattle.count.specs.State.{standing_of, result_of, went_out, Kept}
-use Rattle.sheets.specs.declared.Outcome.TheVariants.{Refused, Closed, Open}
-use Rattle.sheets.specs.Sheets.{Stepped, out_fault, exponent_of}
+use Rattle.std.specs.Prelude.{Ok, Err}
+use Rattle.sheets.specs.declared.Outcome.TheVariants.{Closed, Open}
+use Rattle.sheets.specs.Sheets.{Comes, Stepped, out_fault, exponent_of}
 
 -- one more exponent read
 pub exponents_more : (f : ℕ → ℕ) (xs : List Exponent) (i : ℕ) (x : Exponent) → i < length xs → ((j : ℕ) → j < i → exponent_of xs j ≡ f j) → x.0 ≡ f i →
@@ -29,10 +28,6 @@ exponents_more f xs i x l h e =
     (ap (λ (y : Exponent). y.0) (get_or-set_same xs i x _ l) ∙ e)
 
 module _ (n k : ℕ) (c : Count) (cs : List ℕ) where
-  pub refused_step : (f : ℕ) (w : Refusal) → f ≡ refusal_number w → Stepped n k c cs f (Refused w) c
-  unfolding Stepped
-  refused_step f w e = (e, refl)
-
   -- what the out field is to hold
   abbrev due : ℕ
   due = cond (closes n (standing_of n c) cs k) 0 (leaves n (standing_of n c) cs)
@@ -43,18 +38,18 @@ module _ (n k : ℕ) (c : Count) (cs : List ℕ) where
   pub due_open : closes n (standing_of n c) cs k ≡ false → (a : ℕ) → a ≡ leaves n (standing_of n c) cs → a ≡ due
   due_open e a l = rw e l
 
-module _ (n k : ℕ) (c : Count) (cs : List ℕ) (out : ℕ) where
-  pub wrong_out : (d : ℕ) → d ≡ due n k c cs → (out ≡ d → ⊥) → Stepped n k c cs (out_fault n k c cs out) (Refused R.Out) c
+module _ (n k : ℕ) (c : Count) (cs : List ℕ) (out place : ℕ) where
+  pub wrong_out : (d : ℕ) → d ≡ due n k c cs → (out ≡ d → ⊥) → Stepped n k c cs (out_fault n k c cs out) place (Err R.Out)
   unfolding Stepped first_fault
-  wrong_out d e x = (rw (← e, ne_eqb out d x), refl)
+  wrong_out d e x = rw (← e, ne_eqb out d x)
 
   pub closed : closes n (standing_of n c) cs k ≡ true → out ≡ 0 → (r : Ended) → r.count.gone ≡ c.gone → Kept r.count → result_of n r ≡ ended n (standing_of n c) cs →
-      Stepped n k c cs (out_fault n k c cs out) (Closed r.winner) r.count
-  unfolding Stepped first_fault result_of
-  closed e x r gone kept er = (rw (e, eq-eqb out 0 x), e, ap (λ (y : Result). y.winner) er, gone, kept, er)
+      Stepped n k c cs (out_fault n k c cs out) place (Ok (record { outcome = Closed r.winner; count = r.count; next = place }))
+  unfolding Stepped Comes first_fault result_of
+  closed e x r gone kept er = (rw (e, eq-eqb out 0 x), refl, (e, ap (λ (y : Result). y.winner) er, gone, kept, er))
 
   pub opened : closes n (standing_of n c) cs k ≡ false → (a : ℕ) → a ≡ leaves n (standing_of n c) cs → a ≤ n → out ≡ a →
       (after : Count) → after.gone.outs ≡ c.gone.outs + 1 → Kept after → standing_of n after ≡ went_out (standing_of n c) a cs →
-      Stepped n k c cs (out_fault n k c cs out) (Open a) after
-  unfolding Stepped first_fault
-  opened e a l small x after outs kept st = (rw (e, eq-eqb out _ (x ∙ l)), e, l, small, outs, kept, rw (← l) st)
+      Stepped n k c cs (out_fault n k c cs out) place (Ok (record { outcome = Open a; count = after; next = place }))
+  unfolding Stepped Comes first_fault
+  opened e a l small x after outs kept st = (rw (e, eq-eqb out _ (x ∙ l)), refl, (e, l, small, outs, kept, rw (← l) st))

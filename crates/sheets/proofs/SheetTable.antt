@@ -13,7 +13,6 @@ use lib.Seq.{take-suc-set, get_or-take}
 use borrow.Author.Tests.{le-leb, leb-true}
 use Rattle.numbers.specs.Below.{all_below}
 use Rattle.numbers.proofs.Tests.{all_same}
-use Rattle.group.specs.declared.Exponent.{Exponent}
 use Rattle.group.specs.Elements.{parameters_of}
 use Rattle.rules.specs.Bytes.{number2}
 use Rattle.rules.specs.Records.{RT, sheet_length}
@@ -27,7 +26,8 @@ use Rattle.rules.specs.declared.Refusal.{Refusal}
 use Rattle.rules.proofs.Faults.{first_holds}
 use Rattle.rules.proofs.Lists.{table_at}
 use Rattle.header.specs.declared.Head.{Head}
-use Rattle.frames.specs.declared.Fault.TheVariants.{Sound, Refused}
+use Rattle.std.specs.Prelude.{Ok, Err}
+use Rattle.sheets.specs.declared.SheetFields.{SheetFields}
 use Rattle.sheets.specs.declared.tally.Tally.{Tally}
 use Rattle.header.specs.Heads.{head_of}
 use Rattle.sheets.specs.Tallies.{element_of, Tallied}
@@ -71,23 +71,23 @@ module _ (s : List ℕ) (h : Head) (C at : ℕ) where
     exponent_large b c = first_bad_lem n i 7 l t (λ rest. rw (b, c))
 
   -- ---- the tally equations, with the products carried and what was read
-  pub tallies_are : (t : Tally) (T : said.Tally) (read : List ℕ) (xs : List Exponent) → Tallied h.setup.group.p h.n t T → Counted s h C at read xs Sound →
+  pub tallies_are : (t : Tally) (T : said.Tally) (r : SheetFields) → Tallied h.setup.group.p h.n t T → Counted s h C at (Ok r) →
       tallies s (head_of s h) at T
-      ≡ all_below h.n (λ i. pair_opens (parameters_of h.setup.group) (element_of t.b i) (element_of t.y i) (exponent_of xs i) (get_or read i 0))
+      ≡ all_below h.n (λ i. pair_opens (parameters_of h.setup.group) (element_of t.b i) (element_of t.y i) (exponent_of r.s i) (get_or r.sheet.counts i 0))
   unfolding tallies Counted
-  tallies_are t T read xs v g =
-      all_same h.n _ (λ i. pair_opens (parameters_of h.setup.group) (element_of t.b i) (element_of t.y i) (exponent_of xs i) (get_or read i 0))
+  tallies_are t T r v g =
+      all_same h.n _ (λ i. pair_opens (parameters_of h.setup.group) (element_of t.b i) (element_of t.y i) (exponent_of r.s i) (get_or r.sheet.counts i 0))
       (λ i l.
       rw (
         v.b_is i l,
         v.y_is i l,
         g.2 i l,
-        sym (get_or-take h.n read i 0 l) ∙ ap (λ (t : List ℕ). get_or t i 0) g.1 ∙ table_at h.n (λ i. number2 s (at + 4 + 6 * i)) 0 i l,
+        sym (get_or-take h.n r.sheet.counts i 0 l) ∙ ap (λ (t : List ℕ). get_or t i 0) g.1 ∙ table_at h.n (λ i. number2 s (at + 4 + 6 * i)) 0 i l,
       ))
 
-  pub counts_are : (read : List ℕ) (xs : List Exponent) → Counted s h C at read xs Sound → take h.n read ≡ said.counts_at s at h.n
+  pub counts_are : (r : SheetFields) → Counted s h C at (Ok r) → take h.n r.sheet.counts ≡ said.counts_at s at h.n
   unfolding Counted said.counts_at
-  counts_are read xs g = g.1
+  counts_are r g = g.1
 
   -- ---- the whole record; d: what its out field is to hold
   module _ (round : ℕ) (T : said.Tally) (d : ℕ) where
@@ -95,31 +95,30 @@ module _ (s : List ℕ) (h : Head) (C at : ℕ) where
     unfolding sheet_fault
     sheet_fits e = leb-true (at + sheet_length h.n) (length s) (first_holds _ _ (omega arith) e).0
 
-    pub wrong_frame : (w : Refusal) → Framed s at (sheet_length h.n) RT (get_or s (at + 2) 0) round (Refused w) →
+    pub wrong_frame : (w : Refusal) → Framed s at (sheet_length h.n) RT (get_or s (at + 2) 0) round (Err w) →
         sheet_fault s (head_of s h) at round C T d ≡ refusal_number w
     unfolding Framed sheet_fault
     wrong_frame w f = f _
 
-    module _ (f : Framed s at (sheet_length h.n) RT (get_or s (at + 2) 0) round Sound) where
+    module _ (f : Framed s at (sheet_length h.n) RT (get_or s (at + 2) 0) round (Ok tt)) where
       in_frame : sheet_fault s (head_of s h) at round C T d
           ≡ first_fault (sheet_fields s (head_of s h) at C h.n ++ ((tallies s (head_of s h) at T or_else 10) ∷ (eqb (out_at s at) d or_else 11) ∷ []))
       unfolding Framed first_fault sheet_fault
       in_frame = rw (le-leb (at + sheet_length h.n) (length s) f.0, f.1, f.2)
 
-      module _ (read : List ℕ) (xs : List Exponent) where
-        pub wrong_fields : (w : Refusal) → Counted s h C at read xs (Refused w) → sheet_fault s (head_of s h) at round C T d ≡ refusal_number w
-        unfolding Counted
-        wrong_fields w g = in_frame ∙ g _
+      pub wrong_fields : (w : Refusal) → Counted s h C at (Err w) → sheet_fault s (head_of s h) at round C T d ≡ refusal_number w
+      unfolding Counted
+      wrong_fields w g = in_frame ∙ g _
 
-        module _ (g : Counted s h C at read xs Sound) where
-          pub wrong_tally : tallies s (head_of s h) at T ≡ false → sheet_fault s (head_of s h) at round C T d ≡ 10
-          unfolding Counted first_fault
-          wrong_tally t = in_frame ∙ g.0 _ ∙ rw t
+      module _ (r : SheetFields) (g : Counted s h C at (Ok r)) where
+        pub wrong_tally : tallies s (head_of s h) at T ≡ false → sheet_fault s (head_of s h) at round C T d ≡ 10
+        unfolding Counted first_fault
+        wrong_tally t = in_frame ∙ g.0 _ ∙ rw t
 
-          -- the last test is left
-          pub last_test : tallies s (head_of s h) at T ≡ true → sheet_fault s (head_of s h) at round C T d ≡ first_fault ((eqb (out_at s at) d or_else 11) ∷ [])
-          unfolding Counted first_fault
-          last_test t = in_frame ∙ g.0 _ ∙ rw t
+        -- the last test is left
+        pub last_test : tallies s (head_of s h) at T ≡ true → sheet_fault s (head_of s h) at round C T d ≡ first_fault ((eqb (out_at s at) d or_else 11) ∷ [])
+        unfolding Counted first_fault
+        last_test t = in_frame ∙ g.0 _ ∙ rw t
 
 -- a table filled from the front
 pub table_more : (f : ℕ → ℕ) (l : List ℕ) (i x : ℕ) → i < length l → take i l ≡ table i f → x ≡ f i → take (i + 1) (set l i x) ≡ table (i + 1) f

@@ -8,6 +8,7 @@ ghost use Rattle.sheets.specs.Tallies.{Tallied};
 use group::Element;
 use header::Head;
 
+// Two arrays, as the rules' Tally has two (rules/specs/Sheet.antt), and not one of pairs.
 #[derive(Clone, Copy)]
 pub struct Tally {
     pub b: [Element; 8],
@@ -21,8 +22,7 @@ impl Tally {
         requires { Ready h.setup }
         ensures { Tallied h.setup.group.p 8 result said.no_row × (result.ballots ≡ 0) }
     {
-        let p = h.setup.group.p;
-        let one = Element(1 % p);
+        let one = Element(1 % h.setup.group.p);
         Tally {
             b: [one; 8],
             y: [one; 8],
@@ -32,14 +32,13 @@ impl Tally {
 
     // With the first row of the matrix at a place.
     pub fn with_row(self, board: &[u8], h: Head, at: usize) -> Tally
-        requires { Ready h.setup × (h.n ≤ 8) × (at + 8 * h.n ≤ length board.now) × (length self.b ≡ 8) × (length self.y ≡ 8) × (self.ballots < 1000) }
+        requires { Ready h.setup × (h.n ≤ 8) × (at + 8 * h.n ≤ length board.now) × (self.ballots < 1000) }
         ensures { (result.ballots ≡ self.ballots + 1) × ((T : said.Tally) → Tallied h.setup.group.p h.n self T → Tallied h.setup.group.p h.n result (said.with_row T (matrix_at board.now h.n at))) }
     {
-        let n = h.n;
         let p = h.setup.group.p;
         let mut b = self.b;
         let mut y = self.y;
-        for i in 0..n {
+        for i in 0..h.n {
             let place = at + 8 * i;
             b[i] = group::mul(p, b[i], fields::as_element(board, place));
             y[i] = group::mul(p, y[i], fields::as_element(board, place + 4));

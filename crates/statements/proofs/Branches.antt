@@ -1,11 +1,10 @@
 -- The walk of a proof's branches and statements, in plain terms.
-use Prim.Native.Nat.{ℕ, ◌+◌, ◌*◌, ◌%◌, ◌≤◌, ◌<◌}
+use Prim.Native.Nat.{ℕ, ◌+◌, ◌%◌, ◌<◌}
 use mathlib.Core.Path.{◌≡◌}
 use mathlib.Core.Bool.{Bool, true, false}
 use mathlib.Core.List.{List, ◌++◌, append_assoc, append-nil}
-use native.Mathlib.Nat.{mul-le-mul_right, mod-add-mod}
+use native.Mathlib.Nat.{mod-add-mod}
 use native.Mathlib.Numerals.{add-one}
-use native.Mathlib.Omega.{arith}
 use lib.Dec.{eqb}
 use Rattle.numbers.specs.Below.{all_below, sum_below, concat_below}
 use Rattle.numbers.proofs.Tests.{all_fails}
@@ -35,15 +34,6 @@ module _ (s : List ℕ) (claim : ℕ → ℕ → Statement) (at statements l : �
 
 abbrev pub challenges : (s : List ℕ) (at statements l : ℕ) → ℕ
 challenges s at statements l = number4 s (branch_at at statements l)
-
--- a statement's place is on the board
-pub within : (at branches statements l i len : ℕ) → at + branches * (4 + 12 * statements) ≤ len → l < branches → i < statements →
-    statement_at at statements l i + 12 ≤ len
-within at branches statements l i len h hl hi = omega (arith, mul-le-mul_right (4 + 12 * statements) hl)
-
-pub branch_within : (at branches statements l len : ℕ) → at + branches * (4 + 12 * statements) ≤ len → l < branches →
-    branch_at at statements l + (4 + 12 * statements) ≤ len
-branch_within at branches statements l len h hl = omega (arith, mul-le-mul_right (4 + 12 * statements) hl)
 
 one_more : (m : List ℕ) (f : ℕ → List ℕ) (i : ℕ) → (m ++ concat_below i f) ++ f i ≡ m ++ concat_below (i + 1) f
 unfolding concat_below

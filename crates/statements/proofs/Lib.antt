@@ -5,3 +5,4 @@ pub mod PlainClaims
 pub mod Places
 pub mod ShiftClaims
 pub mod Branches
+pub mod Inverses

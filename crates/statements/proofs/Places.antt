@@ -5,6 +5,7 @@ use mathlib.Core.List.{List}
 use native.Mathlib.Omega.{arith}
 use lib.ListN.{length}
 use Rattle.group.specs.Elements.{Parameters}
+use Rattle.group.specs.declared.Element.{Element}
 use Rattle.rules.specs.Bytes.{number4}
 use Rattle.rules.specs.Proofs.{Statement}
 use Rattle.rules.specs.Claims.{matrix_at, entry_claim, line_claim, row_claim, column_claim}
@@ -44,7 +45,7 @@ module _ (s : List ℕ) (g : Parameters) (n at : ℕ) where
       ∙ sym (by_column n (row_claim g n (matrix_at s n at)) (column_claim g n (matrix_at s n at)) t h)))
 
   -- they stand on the board if the matrix does
-  module _ (inverses : List ℕ) (fits : at + 8 * (n * n) ≤ length s) (l k : ℕ) where
+  module _ (inverses : List Element) (fits : at + 8 * (n * n) ≤ length s) (l k : ℕ) where
     pub entry_stands : (i j : ℕ) → i < n → j < n → Within s inverses g (entry_at n at i j) l k
     unfolding Within
     entry_stands i j hi hj = omega (arith, row_below n n i hi)

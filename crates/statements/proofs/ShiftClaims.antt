@@ -18,10 +18,10 @@ use Rattle.rules.specs.Claims.{matrix_at, entry_claim, shift_claim, besides, sou
 use Rattle.statements.proofs.PlainClaims.{said, over_inverse}
 
 module _ (n l t : ℕ) where
-  pub source_low : t / n < l → t ≡ source l (t / n) * n + t % n
+  source_low : t / n < l → t ≡ source l (t / n) * n + t % n
   source_low h = rw (lt-ltb (t / n) l h) (sym (div-add-mod' t n))
 
-  pub source_high : l ≤ t / n → t + n ≡ source l (t / n) * n + t % n
+  source_high : l ≤ t / n → t + n ≡ source l (t / n) * n + t % n
   source_high h = rw (le-ltb (t / n) l h) (omega (arith, div-add-mod' t n))
 
   pub source_below : (rows : ℕ) → t < rows * n → source l (t / n) * n + t % n < (rows + 1) * n

@@ -1,15 +1,18 @@
 -- What a walk of fields comes to.
-use Rattle.std.specs.Prelude.{ℕ, ◌+◌, ◌*◌, List, Bool, true, false, ◌&&◌, ltb}
+use Rattle.std.specs.Prelude.{ℕ, ◌+◌, ◌*◌, ◌≤◌, ◌≡◌, List, Option, Some, None, Bool, true, false, ◌&&◌, ltb}
 use Rattle.numbers.specs.Below.{all_below}
 use Rattle.group.specs.Elements.{is_element}
 use Rattle.rules.specs.Bytes.{number4}
-use Rattle.statements.specs.declared.walks.Walk.{Walk}
-use Rattle.statements.specs.declared.walks.Walk.TheVariants.{To, Refused}
 
 -- the place after what was walked, or nothing where a field was refused
-abbrev pub walk_if : Bool → ℕ → Walk
-walk_if true at = To at
-walk_if false at = Refused
+abbrev pub walk_if : Bool → ℕ → Option ℕ
+walk_if true at = Some at
+walk_if false at = None
+
+-- what the step of a walk does within a bound: it goes past a block of a size where the block is good
+pub record Strides (pre : ℕ → Type 0) (post : ℕ → Option ℕ → Type 0) (good : ℕ → Bool) (size end : ℕ) : Type 0 where
+  pub may : (x : ℕ) → x + size ≤ end → pre x
+  pub goes : (x : ℕ) (r : Option ℕ) → x + size ≤ end → post x r → r ≡ walk_if (good x) (x + size)
 
 -- two elements, and pairs one after another
 abbrev pub pair_fields : (s : List ℕ) (at p q : ℕ) → Bool

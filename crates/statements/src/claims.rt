@@ -10,6 +10,16 @@ ghost use Rattle.statements.specs.Claims.{claim_of, Run, Shifts, InverseTable, W
 use crate::{Setup, Statement};
 use group::{Element, Exponent};
 
+// A shift's matrices: the places of the one before and of the new one, the rows of the new one, its columns n, and the column a that has gone out.
+#[derive(Clone, Copy)]
+pub struct Struck {
+    pub before: usize,
+    pub new: usize,
+    pub rows: usize,
+    pub n: usize,
+    pub a: usize,
+}
+
 // Which proof, over pairs that stand on the board: b at a place, Y four bytes past it.
 #[derive(Clone, Copy)]
 pub enum Claim {
@@ -23,30 +33,24 @@ pub enum Claim {
         stride: usize,
         count: usize,
     },
-    // The new matrix, of so many rows of n, is the one before with the row struck that has its 1 in column a. The places are those of the matrices.
-    Shift {
-        before: usize,
-        new: usize,
-        rows: usize,
-        n: usize,
-        a: usize,
-    },
+    // The new matrix is the one before with the row struck that has its 1 in the column gone out.
+    Shift(Struck),
 }
 
+#[tactic(auto, using(crate::proofs::PlainClaims::entry_zero))]
 fn claimed_entry(s: &[u8], g: Setup, at: usize, l: usize) -> Statement
     requires ready { Ready g }
     requires at_in_bounds { at + 8 ≤ length s.now }
     ensures { statement_of result ≡ entry_claim (parameters_of g.group) (number4 s.now at) (number4 s.now (at + 4)) l }
 {
     let b = fields::as_element(s, at);
-    let y = fields::as_element(s, at + 4);
-    if l == 0 {
-        return Statement { left: b, right: y };
-    }
-    Statement {
-        left: group::mul(g.group.p, b, g.inverse),
-        right: y,
-    }
+    let right = fields::as_element(s, at + 4);
+    let left = if l == 0 {
+        b
+    } else {
+        group::mul(g.group.p, b, g.inverse)
+    };
+    Statement { left, right }
 }
 
 // A line of a matrix: the pair that it starts with, and how far each is past the one before.
@@ -57,19 +61,21 @@ pub struct Line {
 }
 
 // Line t of a matrix of n rows and n columns: row t, or else column t - n.
+#[tactic(auto, unfolding(crate::specs::Lines::by_line))]
 pub fn line_of(n: usize, t: usize) -> Line
     requires { (t < n + n) × (n * n < 2 ^ 64) }
     ensures { (result.start ≡ line_start n t) × (result.stride ≡ line_stride n t) }
 {
     if t < n {
-        return Line {
+        Line {
             start: t * n,
             stride: 1,
-        };
-    }
-    Line {
-        start: t - n,
-        stride: n,
+        }
+    } else {
+        Line {
+            start: t - n,
+            stride: n,
+        }
     }
 }
 
@@ -78,11 +84,11 @@ fn claimed_line(s: &[u8], g: Setup, at: usize, stride: usize, count: usize) -> S
     requires run { Run s.now at stride count }
     ensures { statement_of result ≡ line_claim (parameters_of g.group) count (λ j. number4 s.now (at + stride * j)) (λ j. number4 s.now (at + 4 + stride * j)) }
 {
-    let b = fields::product(s, g.group.p, at, stride, count);
-    let y = fields::product(s, g.group.p, at + 4, stride, count);
+    let p = g.group.p;
+    let b = fields::product(s, p, at, stride, count);
     Statement {
-        left: group::mul(g.group.p, b, g.inverse),
-        right: y,
+        left: group::mul(p, b, g.inverse),
+        right: fields::product(s, p, at + 4, stride, count),
     }
 }
 
@@ -91,56 +97,53 @@ pub fn source_of(n: usize, l: usize, t: usize) -> usize
     requires { (0 < n) × (t + n < 2 ^ 64) }
     ensures { result ≡ source l (t / n) * n + t % n }
 {
-    let row = t / n;
-    if row < l {
-        return t;
-    }
-    t + n
+    if t / n < l { t } else { t + n }
 }
 
-// A shift's matrices: where the one before and the new one start, the rows of the new one, the columns, and the one gone out.
-#[derive(Clone, Copy)]
-struct Struck {
-    before: usize,
-    new: usize,
-    rows: usize,
-    n: usize,
-    a: usize,
-}
-
-fn claimed_shift(s: &[u8], inverses: &[u32], g: Setup, m: Struck, l: usize, k: usize) -> Statement
+fn claimed_shift(
+    s: &[u8],
+    inverses: &[Element],
+    g: Setup,
+    m: Struck,
+    l: usize,
+    k: usize,
+) -> Statement
     requires ready { Ready g }
-    requires shifts { Shifts s.now inverses.now (parameters_of g.group) m.before m.new m.rows m.n m.a l k }
+    requires shifts { Shifts s.now inverses.now (parameters_of g.group) m l k }
     ensures { statement_of result ≡ shift_claim (parameters_of g.group) m.n (matrix_at s.now m.n m.before) (matrix_at s.now m.n m.new) m.a l k }
 {
     let p = g.group.p;
-    let n = m.n;
-    let before = m.before;
-    let new = m.new;
-    if k == 0 {
-        return claimed_entry(s, g, before + 8 * (l * n + m.a), 1);
-    }
-    if k == 1 {
-        let place = before + 8 * (l * n);
-        let b = fields::product_besides(s, p, place, 8, n, m.a);
-        let y = fields::product_besides(s, p, place + 4, 8, n, m.a);
-        return Statement { left: b, right: y };
-    }
-    let t = k - 2;
-    let from = source_of(n, l, t);
-    let place = new + 8 * t;
-    let b = fields::as_element(s, place);
-    let y = fields::as_element(s, place + 4);
-    let b_inverse = Element(inverses[2 * from]);
-    let y_inverse = Element(inverses[2 * from + 1]);
-    Statement {
-        left: group::mul(p, b, b_inverse),
-        right: group::mul(p, y, y_inverse),
+    match k {
+        0 => claimed_entry(s, g, m.before + 8 * (l * m.n + m.a), 1),
+        1 => {
+            let row = m.before + 8 * (l * m.n);
+            Statement {
+                left: fields::product_besides(s, p, row, 8, m.n, m.a),
+                right: fields::product_besides(s, p, row + 4, 8, m.n, m.a),
+            }
+        }
+        _ => {
+            let t = k - 2;
+            let place = m.new + 8 * t;
+            let from = 2 * source_of(m.n, l, t);
+            Statement {
+                left: group::mul(p, fields::as_element(s, place), inverses[from]),
+                right: group::mul(p, fields::as_element(s, place + 4), inverses[from + 1]),
+            }
+        }
     }
 }
 
 // What a claim says of branch l, statement k.
-pub fn claimed(s: &[u8], inverses: &[u32], g: Setup, claim: Claim, l: usize, k: usize) -> Statement
+#[tactic(auto, unfolding(crate::specs::Claims::Within, crate::specs::Claims::claim_of))]
+pub fn claimed(
+    s: &[u8],
+    inverses: &[Element],
+    g: Setup,
+    claim: Claim,
+    l: usize,
+    k: usize,
+) -> Statement
     requires ready { Ready g }
     requires within { Within s.now inverses.now (parameters_of g.group) claim l k }
     ensures { statement_of result ≡ claim_of s.now (parameters_of g.group) claim l k }
@@ -148,35 +151,19 @@ pub fn claimed(s: &[u8], inverses: &[u32], g: Setup, claim: Claim, l: usize, k: 
     match claim {
         Claim::Entry { at } => claimed_entry(s, g, at, l),
         Claim::Line { at, stride, count } => claimed_line(s, g, at, stride, count),
-        Claim::Shift {
-            before,
-            new,
-            rows,
-            n,
-            a,
-        } => {
-            let m = Struck {
-                before,
-                new,
-                rows,
-                n,
-                a,
-            };
-            claimed_shift(s, inverses, g, m, l, k)
-        }
+        Claim::Shift(m) => claimed_shift(s, inverses, g, m, l, k),
     }
 }
 
-// The inverses of the words of a matrix, with zeros up to 128. They are numbers modulo p: a slice of tuple structs cannot be lent.
-pub fn inverse_table(s: &[u8], p: u32, q: u32, at: usize, words: usize) -> [u32; 128]
+// The inverses of the words of a matrix, with zeros up to 128.
+pub fn inverse_table(s: &[u8], p: u32, q: u32, at: usize, words: usize) -> [Element; 128]
     requires { (0 < p) × (0 < q) × (words ≤ 128) × (at + 4 * words ≤ length s.now) }
     ensures { InverseTable s.now p q at words result }
 {
-    let mut table = [0u32; 128];
+    let mut table = [Element(0); 128];
     let e = Exponent(q - 1);
-    for u in 0..words {
-        let x = group::pow(p, fields::as_element(s, at + 4 * u), e);
-        table[u] = x.0;
+    for (u, inverse) in table[..words].iter_mut().enumerate() {
+        *inverse = group::pow(p, fields::as_element(s, at + 4 * u), e);
     }
     table
 }

@@ -44,6 +44,7 @@ pub struct Shown {
 }
 
 // One statement, at any two bases.
+#[tactic(auto, unfolding(rules::specs::Proofs::statement_holds))]
 pub fn statement_holds(
     p: u32,
     base0: Element,
@@ -56,11 +57,6 @@ pub fn statement_holds(
     ensures { result ≡ statement_holds p base0.0 base1.0 (statement_of st) shown.t1.0 shown.t2.0 e.0 shown.r.0 }
 {
     let r = shown.r;
-    let left = group::mul(p, shown.t1, group::pow(p, st.left, e));
-    if group::pow(p, base0, r).0 == left.0 {
-        let right = group::mul(p, shown.t2, group::pow(p, st.right, e));
-        group::pow(p, base1, r).0 == right.0
-    } else {
-        false
-    }
+    group::pow(p, base0, r).0 == group::mul(p, shown.t1, group::pow(p, st.left, e)).0
+        && group::pow(p, base1, r).0 == group::mul(p, shown.t2, group::pow(p, st.right, e)).0
 }

@@ -39,11 +39,11 @@ pub struct Shape {
     pub statements: usize,
 }
 
-// A proof, whose label and context are fed to the hasher: A and B of a statement are worked out once, for its equations and for the message. The first
-// failing statement leaves both loops, over branches and statements.
+// A proof, whose label and context are fed to the hasher: A and B of a statement are worked out once, for its equations and for the message.
+// The first statement that fails ends the check.
 pub fn proof_holds(
     board: &[u8],
-    inverses: &[u32],
+    inverses: &[Element],
     prefix: Hasher,
     bases: Bases,
     shape: Shape,
@@ -55,28 +55,20 @@ pub fn proof_holds(
     requires by_index { (l i : ℕ) → l < shape.branches → i < shape.statements → Within board.now inverses.now (parameters_of g.group) claim l i }
     ensures { (label : List ℕ) (c : Context) → Fed prefix (label ++ context_bytes c) → result ≡ proof_holds board.now shape.at shape.branches shape.statements sha256 label c g.group.p g.group.q bases.first.0 bases.second.0 (claim_of board.now (parameters_of g.group) claim) }
 {
-    let at = shape.at;
-    let branches = shape.branches;
-    let statements = shape.statements;
     let mut h = prefix;
     let mut sum = Exponent(0);
-    let mut ok = true;
-    'branches: for l in 0..branches {
-        let from = at + l * (4 + 12 * statements);
+    for l in 0..shape.branches {
+        let from = shape.at + l * (4 + 12 * shape.statements);
         let e = fields::as_exponent(board, from);
         sum = group::add(g.group.q, sum, e);
-        for i in 0..statements {
+        for i in 0..shape.statements {
             let st = claims::claimed(board, inverses, g, claim, l, i);
             let shown = shown_at(board, from + 4 + 12 * i);
             if !crate::statement_holds(g.group.p, bases.first, bases.second, st, shown, e) {
-                ok = false;
-                break 'branches;
+                return false;
             }
             h = challenges::feed_statement(h, st.left, st.right, shown.t1, shown.t2);
         }
-    }
-    if !ok {
-        return false;
     }
     let digest = h.finish();
     sum.0 == fields::challenge(&digest, g.group.q).0

@@ -45,30 +45,19 @@ pub fn read(rt: &(impl Input + Print), room: &mut [u8]) -> usize
     n
 }
 
-#[derive(Clone, Copy)]
-pub enum Piece {
-    // Where its bytes start and end.
-    Bytes(usize, usize),
-    // The length is cut off, or the bytes are.
-    Missing,
-}
-
-// The piece at a place.
-pub fn piece_at(s: &[u8], at: usize) -> Piece
+// Where the bytes of the piece at a place start and end; none where the length is cut off, or the bytes are.
+pub fn piece_at(s: &[u8], at: usize) -> Option<(usize, usize)>
     ensures { result ≡ piece_at s.now at }
 {
-    if s.len() < 4 {
-        return Piece::Missing;
-    }
-    if s.len() - 4 < at {
-        return Piece::Missing;
+    if s.len() < 4 || s.len() - 4 < at {
+        return None;
     }
     let start = at + 4;
     let length = fields::number4(s, at) as usize;
     if s.len() - start < length {
-        return Piece::Missing;
+        return None;
     }
-    Piece::Bytes(start, start + length)
+    Some((start, start + length))
 }
 
 // Where the pieces of a case end that asks something of a board: its name, the board, and what is asked. A number of 4 bytes follows.
@@ -79,29 +68,41 @@ pub struct Ends {
     pub asked: usize,
 }
 
-#[derive(Clone, Copy)]
-pub enum Question {
-    Asked(Ends),
-    // A piece is cut off, or the number is.
-    Missing,
-}
-
-// The case at a place.
+// The case at a place; none where a piece is cut off, or the number is.
 #[tactic(auto, unfolding(crate::specs::Input::QuestionReads))]
-pub fn question_at(s: &[u8], at: usize) -> Question
+pub fn question_at(s: &[u8], at: usize) -> Option<Ends>
     ensures { QuestionReads s.now at result }
 {
-    let Piece::Bytes(_, name) = piece_at(s, at) else {
-        return Question::Missing;
-    };
-    let Piece::Bytes(_, board) = piece_at(s, name) else {
-        return Question::Missing;
-    };
-    let Piece::Bytes(_, asked) = piece_at(s, board) else {
-        return Question::Missing;
-    };
+    let (_, name) = piece_at(s, at)?;
+    let (_, board) = piece_at(s, name)?;
+    let (_, asked) = piece_at(s, board)?;
     if s.len() - asked < 4 {
-        return Question::Missing;
+        return None;
     }
-    Question::Asked(Ends { name, board, asked })
+    Some(Ends { name, board, asked })
+}
+
+// Answers each case of an input in turn, by its name, its board, what is asked and the number behind; up to the first that is damaged or has no answer.
+#[tactic(auto, unfolding(crate::specs::Input::QuestionReads))]
+pub fn answer_each<F: Fn(&[u8], &[u8], &[u8], usize) -> bool>(rt: &impl Print, s: &[u8], answer: F)
+    requires { F.IsAlwaysCallable answer }
+{
+    let mut at = 0;
+    while at < s.len() {
+        let Some(Ends { name, board, asked }) = question_at(s, at) else {
+            print::bad_input(rt);
+            return;
+        };
+        let number = fields::number4(s, asked) as usize;
+        if !answer(
+            &s[at + 4..name],
+            &s[name + 4..board],
+            &s[board + 4..asked],
+            number,
+        ) {
+            print::bad_input(rt);
+            return;
+        }
+        at = asked + 4;
+    }
 }

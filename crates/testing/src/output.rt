@@ -11,8 +11,8 @@ fn mark(i: usize) -> u8
 pub fn fill(out: &mut [u8])
     ensures { (i : ℕ) → i < length out.old → get_or out.new i 0 ≡ i % 251 }
 {
-    for i in 0..out.len() {
-        out[i] = mark(i);
+    for (i, x) in out.iter_mut().enumerate() {
+        *x = mark(i);
     }
 }
 
@@ -20,12 +20,5 @@ pub fn fill(out: &mut [u8])
 pub fn kept(out: &[u8], from: usize) -> bool
     ensures { result ≡ true → (i : ℕ) → from ≤ i → i < length out.now → get_or out.now i 0 ≡ i % 251 }
 {
-    let mut i = from;
-    while i < out.len() {
-        if out[i] != mark(i) {
-            return false;
-        }
-        i += 1;
-    }
-    true
+    (from..out.len()).all(|i| out[i] == mark(i))
 }

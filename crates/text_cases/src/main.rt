@@ -3,10 +3,8 @@
 #![tactic(auto)]
 
 ghost use Rattle.std.specs.Prelude.{◌≡◌, ◌≤◌, length};
-ghost use Rattle.testing.specs.Input.{Within};
 
-use rules::Told;
-use testing::input::{Ends, Question};
+use rules::Refused;
 use testing::{input, output, print};
 
 const ROOM: usize = 2048;
@@ -17,26 +15,18 @@ fn no_output() -> [u8; ROOM]
     [0; ROOM]
 }
 
-// The first bytes of an output.
-fn print_text(rt: &impl Print, out: &[u8], size: usize) {
-    if size <= out.len() {
-        print::text(rt, &out[0..size]);
-    }
-}
-
-fn print_answer(rt: &impl Print, answer: Told, out: &[u8]) {
+// What text answered, beside an output at whose front the text stands.
+fn print_answer(rt: &impl Print, answer: Result<usize, Refused>, out: &[u8]) {
     match answer {
-        Told::Text { length } => {
-            print::text(rt, b" text ");
-            print::number(rt, length);
-            print::text(rt, b", rest ");
+        Ok(length) => {
+            let _ = print!(rt; " text {length}, rest ");
             print::kept(rt, output::kept(out, length));
-            print_text(rt, out, length);
+            if let Some(written) = out.get(..length) {
+                print::text(rt, written);
+            }
         }
-        Told::Refused { refusal, record } => {
-            print::text(rt, b" ");
-            print::refused(rt, refusal, record);
-            print::text(rt, b", output ");
+        Err(refused) => {
+            let _ = print!(rt; " {refused}, output ");
             print::kept(rt, output::kept(out, 0));
         }
     }
@@ -62,41 +52,10 @@ fn answer(rt: &impl Print, name: &[u8], board: &[u8], names: &[u8], room: usize)
     true
 }
 
-// The same for the case at a place.
-fn answer_at(rt: &impl Print, s: &[u8], at: usize, ends: Ends) -> bool
-    requires { Within s.now at ends }
-{
-    let name = ends.name;
-    let board = ends.board;
-    let names = ends.asked;
-    let room = numbers::wide32(fields::number4(s, names));
-    answer(
-        rt,
-        &s[at + 4..name],
-        &s[name + 4..board],
-        &s[board + 4..names],
-        room,
-    )
-}
-
-#[tactic(auto, unfolding(testing::specs::Input::QuestionReads))]
-fn run(rt: &impl Print, s: &[u8]) {
-    let mut at = 0;
-    while at < s.len() {
-        let Question::Asked(ends) = input::question_at(s, at) else {
-            print::bad_input(rt);
-            return;
-        };
-        if !answer_at(rt, s, at, ends) {
-            print::bad_input(rt);
-            return;
-        }
-        at = ends.asked + 4;
-    }
-}
-
 fn main(rt: HostRuntime) {
     let mut input = input::room();
     let n = input::read(&rt, &mut input);
-    run(&rt, &input[..n]);
+    input::answer_each(&rt, &input[..n], |name, board, names, room| {
+        answer(&rt, name, board, names, room)
+    });
 }

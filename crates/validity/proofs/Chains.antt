@@ -1,12 +1,12 @@
 -- The search for a repeat among draws: those of one low byte are chained, each to the one before it.
 use Prim.Native.Nat.{ℕ, ◌+◌, ◌-◌, ◌%◌, ◌≤◌, ◌<◌}
-use mathlib.Core.Path.{◌≡◌, refl, sym, ap, ◌∙◌}
+use mathlib.Core.Path.{◌≡◌, refl, sym, ap}
 use mathlib.Core.List.{List}
 use native.Mathlib.Nat.{mod-lt}
 use native.Mathlib.Omega.{arith}
 use borrow.Author.Count.{below_more}
-use lib.Dec.{ltb, eqb}
-use borrow.Author.Tests.{eqb-true, eqb-false, ltb-true, ltb-false}
+use lib.Dec.{eqb}
+use borrow.Author.Tests.{eqb-true, eqb-false}
 use lib.ListN.{length, get_or, set, replicate, length-set}
 use lib.Seq.{get_or-set_same, get_or-set_other}
 use Rattle.numbers.proofs.Tables.{zero_everywhere}
@@ -49,26 +49,6 @@ module _ (draws : List ℕ) (from : ℕ) where
     low : x j % 256 < 256
     low = mod-lt (x j) (omega arith)
 
-    -- the search for the j-th: where it starts, goes on, and ends
-    pub search_starts : Searched j (get_or last (x j % 256) 0)
-    search_starts =
-        let w = c.last_of (x j % 256) low in
-        record { within = w.within; has = w.has; apart = λ i a b e. w.none_later i a b (ap (λ (v : ℕ). v % 256) e) }
-
-    pub search_goes_on : (h : ℕ) → 0 < h → Searched j h → (x (h - 1) ≡ x j → ⊥) → Searched j (get_or prior (h - 1) 0)
-    search_goes_on h some s differs =
-        let w = c.prior_of (h - 1) (omega (arith, s.within)) in
-        record {
-          within = omega (arith, w.within, s.within);
-          has = λ z. w.has z ∙ s.has some;
-          apart = λ i a b e.
-              by_cases (eqb i (h - 1))
-              (λ t. let same = eqb-true i (h - 1) t in differs (rw same at e))
-              (λ t. by_cases (ltb i h)
-              (λ l. w.none_later i a (omega (arith, ltb-true i h l, eqb-false i (h - 1) t)) (ap (λ (v : ℕ). v % 256) e ∙ sym (s.has some)))
-              (λ l. s.apart i (ltb-false i h l) b e));
-        }
-
     -- the j-th is chained
     pub chained_more : j < 64 → Chained (set last (x j % 256) (j + 1)) (set prior j (get_or last (x j % 256) 0)) (j + 1)
     chained_more l =
@@ -92,5 +72,6 @@ module _ (draws : List ℕ) (from : ℕ) where
               (rw (get_or-set_same prior j (get_or last (x j % 256) 0) 0 (omega (arith, c.places))) (c.last_of (x j % 256) low));
         }
 
+  -- where the search for it ends
   pub search_ends : (j h : ℕ) → h ≡ 0 → Searched j h → Fresh draws from j
   search_ends j h z s i l = s.apart i (omega arith) l

@@ -5,7 +5,7 @@ use mathlib.Core.Bool.{Bool, true, false, not, ◌&&◌, and-eq-true_iff}
 use mathlib.Core.Logic.{inl, inr}
 use mathlib.Core.List.{List}
 use native.Mathlib.Omega.{arith}
-use borrow.Author.Tests.{eq-eqb, ne_eqb, eqb-true, not-true, not-false}
+use borrow.Author.Tests.{ne_eqb, eqb-true, not-true, not-false}
 use lib.Dec.{eqb}
 use lib.ListN.{length}
 use Rattle.numbers.specs.Below.{all_below}
@@ -17,10 +17,17 @@ use Rattle.rules.specs.Group.{orders, generators}
 use Rattle.rules.specs.Header.{ranked, sizes}
 use Rattle.rules.specs.Count.{is_ranking}
 use Rattle.rules.specs.Tests.{first_fault}
-use Rattle.jobs.specs.Job.{Job, group_of, ranking_of, counted_below}
+use Rattle.jobs.specs.Job.{Job, group_of, ranking_of}
 use Rattle.jobs.specs.Write.{label_good, rankings_good, kinds_good, some_counted, job_fault, first_bad, bad_ranking, write_outcome, write_output}
 use Rattle.parameters.proofs.Rules.{orders_positive}
-use Rattle.validity.specs.Tests.{Stops}
+use Rattle.std.specs.Prelude.{Result}
+use Rattle.std.specs.Result.{IsErrAnd}
+use Rattle.std.proofs.lemmas.Result.{err_from_is_err_and}
+use Rattle.rules.specs.declared.Refusal.{Refusal}
+use Rattle.group.specs.declared.Group.{Group}
+use Rattle.jobs.specs.declared.Unwritten.{Unwritten}
+use Rattle.rules.specs.Answers.{refusal_number}
+use Rattle.validity.specs.Tests.{Stops, JobTested}
 
 -- the tests in the code's words
 module _ (job : Job) where
@@ -45,18 +52,18 @@ module _ (job : Job) where
     | inr o ↦ all_fails k o.0 _ o.2 (not-true _ o.3)
   ]
 
-  pub well_ranked : length job.rankings ≡ job.K * job.n → first_bad job job.K ≡ 0 → rankings_good job ≡ true
-  well_ranked l b = rw (eq-eqb (length job.rankings) (job.K * job.n) l) (all_ranked_lem job.K b)
+  pub well_ranked : eqb (length job.rankings) (job.K * job.n) ≡ true → first_bad job job.K ≡ 0 → rankings_good job ≡ true
+  well_ranked l b = rw l (all_ranked_lem job.K b)
 
   -- as many kinds as ballots
   pub kinds_many : kinds_good job ≡ true → length job.kinds ≡ job.K
   kinds_many h = eqb-true _ _ ((and-eq-true_iff (eqb (length job.kinds) job.K) _).0 h).0
 
-  pub none_counted : (c : ℕ) → c ≡ counted_below job job.K → c ≡ 0 → some_counted job ≡ false
-  none_counted c e z = rw (eq-eqb (counted_below job job.K) 0 (sym e ∙ z))
-
-  pub some_counted_lem : (c : ℕ) → c ≡ counted_below job job.K → (c ≡ 0 → ⊥) → some_counted job ≡ true
-  some_counted_lem c e z = rw (ne_eqb (counted_below job job.K) 0 (λ n. z (e ∙ n)))
+-- what the refusal of a test tells
+pub refused : (job : Job) (r : Result Group Unwritten) (u : Unwritten) (refusal : Refusal) → IsErrAnd r (λ e. e ≡ u) → u.refusal ≡ refusal → u.ranking ≡ 0 →
+    ((out : List ℕ) → Stops job out (refusal_number refusal) 0) → JobTested job r
+unfolding JobTested
+refused job r u refusal w n k s = let p = err_from_is_err_and r w in rw (p.1, p.2) (λ out. rw (n, k) (s out))
 
 -- the first test that fails names the refusal
 module _ (job : Job) (out : List ℕ) where
@@ -90,13 +97,13 @@ module _ (job : Job) (out : List ℕ) where
         unfolding job_fault first_fault
         stops_rankings d k w = stops 12 k (rw (a, b, c, d)) w
 
-        pub stops_length : (length job.rankings ≡ job.K * job.n → ⊥) → Stops job out 13 0
+        pub stops_length : eqb (length job.rankings) (job.K * job.n) ≡ false → Stops job out 13 0
         unfolding bad_ranking
-        stops_length h = let t = ne_eqb (length job.rankings) (job.K * job.n) h in stops_rankings (rw t) 0 (rw t)
+        stops_length h = stops_rankings (rw h) 0 (rw h)
 
-        pub stops_ranking : length job.rankings ≡ job.K * job.n → (k : ℕ) → k ≡ first_bad job job.K → 0 < k → Stops job out 13 k
+        pub stops_ranking : eqb (length job.rankings) (job.K * job.n) ≡ true → (k : ℕ) → k ≡ first_bad job job.K → 0 < k → Stops job out 13 k
         unfolding bad_ranking
-        stops_ranking h k e p = let t = eq-eqb (length job.rankings) (job.K * job.n) h in stops_rankings (rw t (not_ranked job job.K (omega arith))) k (rw t (sym e))
+        stops_ranking h k e p = stops_rankings (rw h (not_ranked job job.K (omega arith))) k (rw h (sym e))
 
         module _ (d : rankings_good job ≡ true) where
           pub stops_kinds : kinds_good job ≡ false → Stops job out 17 0

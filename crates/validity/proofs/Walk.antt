@@ -1,19 +1,12 @@
 -- The walk over the records of a board: the test of each, of a round's, and of all.
-use Prim.Native.Nat.{ℕ, ◌*◌, ◌≤◌, ◌<◌}
+use Prim.Native.Nat.{ℕ, ◌<◌}
 use mathlib.Core.Path.{◌≡◌}
 use mathlib.Core.Bool.{Bool, false}
 use mathlib.Core.List.{List}
-use native.Mathlib.Nat.{mul-le-mul_right}
-use native.Mathlib.Omega.{arith}
 use Rattle.numbers.specs.Below.{all_below}
 use Rattle.numbers.proofs.Tests.{all_fails}
-use Rattle.rules.proofs.Sizes.{few_pairs}
 use Rattle.jobs.specs.Job.{record_secrets, draws_at}
 use Rattle.jobs.specs.Write.{different}
-
--- at most one matrix of at most 64 pairs
-pub few_secrets : (records rows n : ℕ) → records ≤ 1 → rows ≤ 8 → n ≤ 8 → records * (rows * n) ≤ 64
-few_secrets records rows n a b c = let u : records * (rows * n) ≤ 1 * (rows * n) = mul-le-mul_right (rows * n) a in omega (arith, few_pairs rows n b c)
 
 module _ (draws : List ℕ) (n : ℕ) (kind : ℕ → ℕ) (k : ℕ) where
   -- ballot b's record in round m repeats no x; and those of a round

@@ -3,7 +3,7 @@
 
 pub mod repeats;
 
-ghost use Rattle.std.specs.Prelude.{◌≡◌, ◌&&◌, ◌||◌, List, [], ℕ, ◌<◌, leb, ltb, eqb, length, get_or};
+ghost use Rattle.std.specs.Prelude.{◌≡◌, ◌&&◌, ◌||◌, true, false, List, [], ℕ, ◌<◌, leb, ltb, eqb, length, get_or, MatchResult};
 ghost use Rattle.numbers.specs.Below.{all_below};
 ghost use Rattle.sha256.specs.Message.{sha256};
 ghost use Rattle.group.specs.Elements.{parameters_of};
@@ -14,6 +14,7 @@ ghost use Rattle.validity.specs.Jobs.{job_of};
 ghost use Rattle.validity.specs.Tests.{JobTested};
 
 use group::{Element, Group};
+use jobs::Unwritten;
 use plain::{kinds, rankings};
 use rules::Refusal;
 
@@ -28,25 +29,16 @@ pub struct Job {
     pub counter: u8,
 }
 
-// What the tests up to the kinds come to: the group, or the refusal and the bad ranking.
-#[derive(Clone, Copy)]
-pub enum Tested {
-    Sound(Group),
-    Refused(Refusal, usize),
-}
-
 // The group of a job, g1 worked out.
 fn group_of(job: Job, label: &[u8]) -> Group
     requires { (0 < job.p) × (0 < job.q) }
     ensures { parameters_of result ≡ group_of sha256 (job_of job label.now [] [] []) }
 {
-    let g0 = job.g0;
-    let g1 = parameters::derived(label, job.p, job.q, g0, job.counter);
     Group {
         p: job.p,
         q: job.q,
-        g0,
-        g1,
+        g0: job.g0,
+        g1: parameters::derived(label, job.p, job.q, job.g0, job.counter),
     }
 }
 
@@ -55,83 +47,70 @@ fn label_good(label: &[u8], counter: u8, g: Group) -> bool
     requires { (0 < g.p) × (0 < g.q) }
     ensures { result ≡ (eqb (length label.now) 32 && generators sha256 label.now counter (parameters_of g)) }
 {
-    if label.len() != 32 {
-        return false;
-    }
-    parameters::generators_good(label, counter, g)
+    label.len() == 32 && parameters::generators_good(label, counter, g)
 }
 
 fn is_kind(kind: usize) -> bool
     ensures { result ≡ (is_counted kind || is_audited kind) }
 {
-    if kind == layout::COUNTED {
-        return true;
-    }
-    kind == layout::AUDITED
+    kind == layout::COUNTED || kind == layout::AUDITED
 }
 
 // Whether the kinds are so many, each counted or audited.
 fn kinds_good(kinds: &[u8], k: usize) -> bool
     ensures { result ≡ (eqb (length kinds.now) k && all_below k (λ b. is_counted (get_or kinds.now b 0) || is_audited (get_or kinds.now b 0))) }
 {
-    if kinds.len() != k {
-        return false;
-    }
-    for b in 0..k {
-        if !is_kind(numbers::wide(kinds[b])) {
-            return false;
-        }
-    }
-    true
+    kinds.len() == k && kinds.iter().all(|&kind| is_kind(usize::from(kind)))
 }
 
-// The tests up to the kinds, in their order.
-pub fn up_to_kinds(job: Job, label: &[u8], rankings: &[u8], kinds: &[u8]) -> Tested
+// The refusal that is due where a test fails; the rankings' own test alone names a ranking.
+fn due(good: bool, refusal: Refusal) -> Result<(), Unwritten>
+    ensures { MatchResult result (λ _. good ≡ true) (λ e. (good ≡ false) × (e.refusal ≡ refusal) × (e.ranking ≡ 0)) }
+{
+    if good {
+        Ok(())
+    } else {
+        Err(Unwritten {
+            refusal,
+            ranking: 0,
+        })
+    }
+}
+
+// The group of a job that passes the tests up to the kinds, in their order.
+pub fn up_to_kinds(
+    job: Job,
+    label: &[u8],
+    rankings: &[u8],
+    kinds: &[u8],
+) -> Result<Group, Unwritten>
     ensures { (draws : List ℕ) → JobTested (job_of job label.now rankings.now kinds.now draws) result }
 {
-    let n = job.n;
-    let k = job.k;
-    if !parameters::sizes_good(layout::ranked(), n, k) {
-        return Tested::Refused(Refusal::Sizes, 0);
+    due(
+        parameters::sizes_good(layout::ranked(), job.n, job.k),
+        Refusal::Sizes,
+    )?;
+    due(
+        parameters::orders_good(job.n, job.k, job.p, job.q),
+        Refusal::Orders,
+    )?;
+    let group = group_of(job, label);
+    due(label_good(label, job.counter, group), Refusal::Generators)?;
+    due(rankings.len() == job.k * job.n, Refusal::Rankings)?;
+    if let Some(bad) = rankings::first_bad(rankings, job.n, job.k) {
+        return Err(Unwritten {
+            refusal: Refusal::Rankings,
+            ranking: bad,
+        });
     }
-    if !parameters::orders_good(n, k, job.p, job.q) {
-        return Tested::Refused(Refusal::Orders, 0);
-    }
-    let g = group_of(job, label);
-    if !label_good(label, job.counter, g) {
-        return Tested::Refused(Refusal::Generators, 0);
-    }
-    if rankings.len() != k * n {
-        return Tested::Refused(Refusal::Rankings, 0);
-    }
-    let bad = rankings::first_bad(rankings, n, k);
-    if 0 < bad {
-        return Tested::Refused(Refusal::Rankings, bad);
-    }
-    if !kinds_good(kinds, k) {
-        return Tested::Refused(Refusal::Kind, 0);
-    }
-    if kinds::counted(kinds, k) == 0 {
-        return Tested::Refused(Refusal::NoneCounted, 0);
-    }
-    Tested::Sound(g)
+    due(kinds_good(kinds, job.k), Refusal::Kind)?;
+    due(kinds::counted(kinds, job.k) != 0, Refusal::NoneCounted)?;
+    Ok(group)
 }
 
 // Whether so many draws are there, each from 1 to q - 1.
 pub fn draws_good(draws: &[u32], needed: usize, q: u32) -> bool
     ensures { result ≡ (leb needed (length draws.now) && all_below needed (λ d. leb 1 (get_or draws.now d 0) && ltb (get_or draws.now d 0) q)) }
 {
-    if draws.len() < needed {
-        return false;
-    }
-    for d in 0..needed {
-        let x = draws[d];
-        if x < 1 {
-            return false;
-        }
-        if q <= x {
-            return false;
-        }
-    }
-    true
+    needed <= draws.len() && draws[..needed].iter().all(|&x| 1 <= x && x < q)
 }

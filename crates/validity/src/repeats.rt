@@ -23,17 +23,17 @@ fn all_different(draws: &[u32], from: usize, size: usize) -> bool
     let mut prior = [0u8; 64];
     for j in 0..size {
         let x = draws[from + j];
-        let b = numbers::wide32(x % 256);
-        let mut h = numbers::wide(last[b]);
+        let b = (x % 256) as usize;
+        let mut h = usize::from(last[b]);
         while 0 < h {
             let i = h - 1;
             if draws[from + i] == x {
                 return false;
             }
-            h = numbers::wide(prior[i]);
+            h = usize::from(prior[i]);
         }
         prior[j] = last[b];
-        last[b] = numbers::low(j + 1);
+        last[b] = (j + 1) as u8;
     }
     true
 }
@@ -46,7 +46,7 @@ pub fn none_repeats(draws: &[u32], kinds: &[u8], n: usize, k: usize, rounds: usi
     let mut at = 0;
     for m in 0..rounds {
         for b in 0..k {
-            let kind = numbers::wide(kinds[b]);
+            let kind = usize::from(kinds[b]);
             if !all_different(draws, at, record_secrets(n, kind, m)) {
                 return false;
             }

@@ -6,6 +6,7 @@ use mathlib.Core.List.{List, ◌++◌}
 use native.Mathlib.Omega.{arith}
 use borrow.Author.Tests.{eqb-true}
 use lib.Dec.{eqb}
+use Rattle.std.specs.Prelude.{Ok}
 use lib.ListN.{length, drop, length-append}
 use Rattle.numbers.specs.Below.{concat_below}
 use Rattle.sha256.specs.Message.{sha256}
@@ -14,8 +15,8 @@ use Rattle.rules.specs.Answers.{with_zeros}
 use Rattle.rules.specs.Count.{Result, is_ranking}
 use Rattle.jobs.specs.Job.{Job, group_of, ranking_of, kind_of, counted_rankings, needed, board_length, plain_result, round_draws, round_at}
 use Rattle.jobs.specs.Board.{header_bytes, board_bytes, board}
-use Rattle.jobs.specs.Write.{no_repeat, board_written, write_outcome, write_output, Valid}
-use Rattle.jobs.specs.Replies.{outcome_of}
+use Rattle.jobs.specs.Write.{no_repeat, board_written, job_fault, write_outcome, write_output, Valid}
+use Rattle.jobs.specs.Replies.{outcome_of, order_written}
 use Rattle.jobs.specs.declared.Written.{Written}
 use Rattle.rules.proofs.Orders.{orders_of_test}
 use Rattle.jobs.proofs.FineJob.{fine, good_group, no_refusal}
@@ -30,7 +31,7 @@ use Rattle.boards.specs.Parts.{Writable, Sheeted, round_bytes}
 use Rattle.boards.proofs.Walk.{rounds_are, few_rounds, goes_out, left, struck_below}
 use Rattle.boards.proofs.RoundPlans.{length_rounds, length_header, place_least}
 use Rattle.writer.specs.Steps.{Measured}
-use Rattle.writer.proofs.Outcomes.{measured_rounds, enough, Answered}
+use Rattle.writer.proofs.Outcomes.{measured_rounds, enough}
 
 -- a job with the numbers of a group
 abbrev in_group : Job → Parameters → Job
@@ -130,11 +131,19 @@ module _ (job : Job) (v : Valid sha256 job) where
         let same : bytes_for job g c.count.gone.order rounds ≡ board sha256 job = (λ i. bytes_for job (e i) (order_counted i) (rounds_counted i)) ∙ is_board in
         ap (λ (x : List ℕ). written x o) same ∙ written_at (board sha256 job) o (board_length job) (ap length (sym is_board) ∙ made_long)
 
-    pub writes : no_repeat job ≡ true → (o o' : List ℕ) (r : Written) → (m.length ≤ length o) × (o' ≡ written (bytes_for job g c.count.gone.order rounds) o) →
-        (outcome_of r ≡ board_written m.length rounds (list_of c.count.gone) c.winner) × (r.order ≡ c.count.gone.order) → Answered job o o' r
-    unfolding write_outcome write_output result_of
-    writes d o o' r p t =
-        let none = no_refusal sha256 job (length o) v d (omega (arith, w.length)) in
-        let same : board_written m.length rounds (list_of c.count.gone) c.winner ≡ board_written (board_length job) (plain_result job).rounds (plain_result job).order (plain_result job).winner =
-        λ i. board_written (w.length i) (w.counted i).rounds (w.counted i).order (w.counted i).winner in
-        (rw none (t.0 ∙ same), (rw none (t.1 ∙ order_counted), rw none (p.1 ∙ wrote o)))
+    -- no test fails: the answer is the board's, and what was written is the output
+    module _ (d : no_repeat job ≡ true) (o : List ℕ) (h : m.length ≤ length o) where
+      none : job_fault sha256 job (length o) ≡ 0
+      none = no_refusal sha256 job (length o) v d (omega (arith, w.length))
+
+      pub writes : written (bytes_for job g c.count.gone.order rounds) o ≡ write_output sha256 job o
+      unfolding write_output
+      writes = rw none (wrote o)
+
+      pub told : (r : Written) → (outcome_of (Ok r) ≡ board_written m.length rounds (list_of c.count.gone) c.winner) × (r.order ≡ c.count.gone.order) →
+          (outcome_of (Ok r) ≡ write_outcome sha256 job (length o)) × (r.order ≡ order_written (write_outcome sha256 job (length o)))
+      unfolding write_outcome result_of
+      told r t =
+          let same : board_written m.length rounds (list_of c.count.gone) c.winner ≡ board_written (board_length job) (plain_result job).rounds (plain_result job).order (plain_result job).winner =
+          λ i. board_written (w.length i) (w.counted i).rounds (w.counted i).order (w.counted i).winner in
+          (rw none (t.0 ∙ same), rw none (t.1 ∙ order_counted))

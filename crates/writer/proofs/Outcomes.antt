@@ -6,16 +6,18 @@ use mathlib.Core.List.{List}
 use native.Mathlib.Omega.{arith}
 use borrow.Author.Tests.{eqb-true, leb-true, lt-leb}
 use lib.Dec.{leb, ltb, eqb}
-use lib.ListN.{length, get_or, replicate}
+use lib.ListN.{length, get_or}
+use Rattle.std.specs.Prelude.{Err}
 use Rattle.numbers.specs.Below.{all_below}
 use Rattle.sha256.specs.Message.{sha256}
 use Rattle.rules.specs.Header.{ranked}
-use Rattle.rules.specs.Count.{Result}
+use Rattle.rules.specs.Count as C
+use Rattle.rules.specs.Answers.{refusal_number}
 use Rattle.rules.specs.Tests.{first_fault}
 use Rattle.jobs.specs.Job.{Job, kind_of, round_draws, needed, board_length, plain_result, round_at}
 use Rattle.jobs.specs.Write.{draws_good, rounds_different, no_repeat, job_fault, job_refused, write_outcome, write_output, Passed, Valid}
-use Rattle.jobs.specs.Replies.{outcome_of, order_written}
-use Rattle.jobs.specs.declared.Written.{Written}
+use Rattle.jobs.specs.Replies.{outcome_of}
+use Rattle.jobs.specs.declared.Unwritten.{Unwritten}
 use Rattle.rules.proofs.Limits.{sizes_bounds}
 use Rattle.count.specs.State.{result_of, Kept}
 use Rattle.count.specs.declared.Ended.{Ended}
@@ -33,18 +35,18 @@ module _ (job : Job) where
       record {
         counted = c.0;
         kept = c.1;
-        needed = s.0 ∙ ap (λ (r : Result). round_draws job.n (kind_of job) job.K r.rounds) c.0;
-        length = s.1 ∙ ap (λ (r : Result). round_at job.n (kind_of job) job.K r.rounds) c.0;
+        needed = s.0 ∙ ap (λ (r : C.Result). round_draws job.n (kind_of job) job.K r.rounds) c.0;
+        length = s.1 ∙ ap (λ (r : C.Result). round_at job.n (kind_of job) job.K r.rounds) c.0;
         small = s.2;
       }
 
   pub measured_rounds : {e : Ended} {m : Measure} → Measured job e m → e.count.gone.outs + 1 ≡ (plain_result job).rounds
   unfolding result_of
-  measured_rounds w = ap (λ (r : Result). r.rounds) w.counted
+  measured_rounds w = ap (λ (r : C.Result). r.rounds) w.counted
 
-  pub draws_are : (b : Bool) (k : ℕ) → k ≡ needed job →
+  pub draws_are : {b : Bool} {k : ℕ} → k ≡ needed job →
       b ≡ (leb k (length job.draws) && all_below k (λ d. leb 1 (get_or job.draws d 0) && ltb (get_or job.draws d 0) job.q)) → b ≡ draws_good job
-  draws_are b k e h =
+  draws_are e h =
       h ∙ ap (λ (k : ℕ). leb k (length job.draws) && all_below k (λ d. leb 1 (get_or job.draws d 0) && ltb (get_or job.draws d 0) job.q)) e
 
   pub enough : draws_good job ≡ true → needed job ≤ length job.draws
@@ -76,10 +78,7 @@ module _ (job : Job) (out : List ℕ) where
       let t = v.passed in
       plainly job out 14 (λ e. omega arith) (rw (t.sized, t.ordered, t.labelled, t.ranked, t.kinds, t.some_counted_lem, v.drawn, d, lt-leb (board_length job) (length out) (omega (arith, w))))
 
--- what the contract says of a reply, and of the output before and after
-abbrev pub Answered : Job → (o o' : List ℕ) → Written → Type 0
-Answered job o o' r =
-    (outcome_of r ≡ write_outcome sha256 job (length o)) × ((r.order ≡ order_written (write_outcome sha256 job (length o))) × (o' ≡ write_output sha256 job o))
-
-pub refuses : (job : Job) (o o' : List ℕ) (r : Written) (v k : ℕ) → Stops job o v k → (outcome_of r ≡ job_refused v k) × (r.order ≡ replicate 8 0) → o' ≡ o → Answered job o o' r
-refuses job o o' r v k s w e = (w.0 ∙ sym s.outcome, (rw s.outcome w.1, e ∙ sym s.output))
+-- what the contract says of a refusal, where the output is as it was
+pub refuses : (job : Job) (o : List ℕ) (u v : Unwritten) → Stops job o (refusal_number v.refusal) v.ranking → u ≡ v →
+    (outcome_of (Err u) ≡ write_outcome sha256 job (length o)) × (o ≡ write_output sha256 job o)
+refuses job o u v s e = (ap (λ (u : Unwritten). job_refused (refusal_number u.refusal) u.ranking) e ∙ sym s.outcome, sym s.output)

@@ -11,6 +11,6 @@ use Rattle.challenges.proofs.feed_context.Goals as goal
 pub returns : goal.returns
 returns c =
     let a = c.args in
-    c.update.ensures
+    rw (c.to_be_bytes.ensures, c.to_be_bytes-2.ensures) at c.update.ensures
     ∙ ap (λ (mark : List ℕ). feed (stream_of a.labelled) (context_bytes (record { mark = mark; number = a.number; round = a.round; place = a.place })))
     (two_of a.mark (omega (arith, c.well_formed)))

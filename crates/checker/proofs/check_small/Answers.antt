@@ -1,8 +1,5 @@
-use native.Mathlib.Omega.{arith}
+use Rattle.checker.proofs.Onward.{verified_order}
 use Rattle.checker.proofs.check_small.Goals as goal
 
-pub check_alone-requires : goal.check_alone-requires
-check_alone-requires c = rw c.small.ensures (record { least = omega arith; most = omega arith; ballots = omega arith })
-
-pub returns : goal.returns
-returns c = rw c.small.ensures at c.check_alone.ensures
+pub returns-clause-order : goal.returns-clause-order
+returns-clause-order c = rw c.small.ensures at (verified_order _ _ _ _ _ c.check_model.ensures)

@@ -12,50 +12,43 @@ use Rattle.count.proofs.Picks.{sheets_many, same_gone}
 use Rattle.header.specs.Heads.{head_of}
 use Rattle.round.specs.declared.RoundOutcome.{RoundOutcome}
 use Rattle.round.specs.declared.RoundOutcome.TheVariants.{Open, Closed}
-use Rattle.round.specs.Outcomes.{RoundComes}
+use Rattle.round.specs.Outcomes.{RoundComes, Rounded}
 use Rattle.round.proofs.Beginnings.{begins_first, begins_next}
 use Rattle.checker.specs.Counts.{goes_on, stops_from}
 use Rattle.checker.proofs.Onward.{one_leaves, sheets_more, verdict_of_lem, ends_with, ends, goes_on_lem, refused_here, open_here, stops_here, stops_later}
-use Rattle.checker.proofs.rounds.Goals.{After-read_round-read, In-Closed, In-Open}
+use Rattle.checker.proofs.rounds.Goals.{After-read_round, In-Closed}
 use Rattle.checker.proofs.rounds.Goals as goal
 
--- what the round read comes to
-abbrev Comes : (c : goal.After-read_round-read) → RoundOutcome → Type 0
-Comes c o =
-    let a = c.args in
-    let l = c.loop-why in
-    RoundComes a.board.now a.h l.count l.round.m l.round.a o c.read_round-read.result.count
-
 -- the verdict on the whole board, where the round has a verdict of its own
-ended : (c : goal.After-read_round-read) (W : Verdict) →
+ended : (c : goal.After-read_round) (W : Verdict) →
     let a = c.args in
-    let l = c.loop-why in
+    let l = c.loop-read in
     let H = head_of a.board.now a.h in
     ((after : Verdict) → round_verdict sha256 a.board.now H (standing_of a.h.n l.count) l.round.m l.round.a after ≡ W) →
     check_from sha256 a.board.now H a.h.n start 0 0 ≡ W
 ended c W =
     let a = c.args in
-    let l = c.loop-why in
+    let l = c.loop-read in
     let H = head_of a.board.now a.h in
     ends a.board.now H (check_from sha256 a.board.now H a.h.n start 0 0) (standing_of a.h.n l.count) l.round.m l.round.a (omega (arith, l.invariant.0.early)) l.invariant.3 W
 
 -- the standing count where the check stops, where this round does not go on
-stopped : (c : goal.After-read_round-read) → let a = c.args in
-    let l = c.loop-why in
+stopped : (c : goal.After-read_round) → let a = c.args in
+    let l = c.loop-read in
     let H = head_of a.board.now a.h in
     goes_on sha256 a.board.now H (standing_of a.h.n l.count) l.round.m l.round.a ≡ false →
     stops_from sha256 a.board.now H a.h.n start 0 0 ≡ standing_of a.h.n l.count
 stopped c =
     let a = c.args in
-    let l = c.loop-why in
+    let l = c.loop-read in
     let H = head_of a.board.now a.h in
     stops_here a.board.now H (stops_from sha256 a.board.now H a.h.n start 0 0) (standing_of a.h.n l.count) l.round.m l.round.a (omega (arith, l.invariant.0.early)) l.invariant.5
 
-pub loop-why-init : goal.loop-why-init
+pub loop-read-init : goal.loop-read-init
 unfolding table
-loop-why-init c =
-    rw (c.first-round.ensures, c.requires.1) (
-      begins_first c.args.board.now c.args.h c.requires.0,
+loop-read-init c =
+    rw c.first-round.ensures (
+      begins_first c.args.board.now c.args.h c.requires,
       c.new-count.ensures.0,
       c.new-count.ensures.1,
       rw (sub-zero, c.new-count.ensures.2 c.args.h.n),
@@ -63,53 +56,51 @@ loop-why-init c =
       rw (sub-zero, c.new-count.ensures.2 c.args.h.n),
     )
 
-pub returns-in-Refused : goal.returns-in-Refused
-unfolding RoundComes
-returns-in-Refused c =
-    let t = rw c.in-Refused.is at c.read_round-read.ensures in
-    let x = ended (goal.at.returns-in-Refused c).After-read_round-read _ t.0 in
-    let l = c.loop-why in
+pub returns-in-Err : goal.returns-in-Err
+unfolding Rounded
+returns-in-Err c =
+    let t = c.in-Err.ensures in
+    let at = (goal.at.returns-in-Err c).After-read_round in
+    let x = ended at _ t in
     let e = c.refused.ensures in
-    record { verdict = rw e.0 (sym x); counted = rw (x, e.1, e.2, t.1) (refl, l.invariant.2, sym (stopped (goal.at.returns-in-Refused c).After-read_round-read (refused_here _ _ _ _ _ _ _ t.0))) }
+    record { verdict = rw e.0 (sym x); ordered = rw e.0 tt; counted = rw (x, e.1, e.2) (refl, c.loop-read.invariant.2, sym (stopped at (refused_here _ _ _ _ _ _ _ t))) }
 
 -- the round closes the board
-closes : (c : goal.In-Closed) → let Comes : (RoundOutcome → Type 0) = λ o. let a = c.args in let l = c.loop-why in RoundComes a.board.now a.h l.count l.round.m l.round.a o c.read_round-read.result.count in
+closes : (c : goal.In-Closed) → let Comes : (RoundOutcome → Type 0) = λ o. let a = c.args in let l = c.loop-read in RoundComes a.board.now a.h l.count l.round.m l.round.a o c.in-Ok.read.count in
     Comes (Closed c.in-Closed.winner)
-closes c = rw c.in-Closed.is at c.read_round-read.ensures
+unfolding Rounded
+closes c = rw c.in-Closed.is at c.in-Ok.ensures
 
-pub accepted-requires : goal.accepted-requires
+pub overflow_add-result : goal.overflow_add-result
 unfolding RoundComes
-accepted-requires c = (closes (goal.at.accepted-requires c).In-Closed).2
+overflow_add-result c =
+    let l = c.loop-read in
+    omega (arith, ap (λ (y : Gone). y.outs) (closes (goal.at.overflow_add-result c).In-Closed).1, l.invariant.1, l.invariant.0.early, c.requires.high)
 
 pub returns-in-Closed : goal.returns-in-Closed
 unfolding RoundComes
 returns-in-Closed c =
     let a = c.args in
-    let l = c.loop-why in
+    let l = c.loop-read in
     let t = closes (goal.at.returns-in-Closed c).In-Closed in
-    let x = ended (goal.at.returns-in-Closed c).After-read_round-read _ t.0 in
+    let x = ended (goal.at.returns-in-Closed c).After-read_round _ t.0 in
     let g = same_gone a.h.n _ l.count t.1 in
-    let w = c.accepted.ensures in
     record {
-      verdict = rw (w.0, w.2)
-          (verdict_of_lem a.h.n c.read_round-read.result.count c.in-Closed.winner ∙ (λ i. accepted ((ap (λ (y : Gone). y.outs) t.1 ∙ l.invariant.1) i + 1) (g i) c.in-Closed.winner) ∙ sym x);
-      counted = rw (x, w.1, w.2)
-          (ends_with a.board.now (head_of a.board.now a.h) l.round.m c.in-Closed.winner l.count c.read_round-read.result.count c.requires.0.high
+      verdict = verdict_of_lem a.h.n c.in-Ok.read.count c.in-Closed.winner ∙ (λ i. accepted ((ap (λ (y : Gone). y.outs) t.1 ∙ l.invariant.1) i + 1) (g i) c.in-Closed.winner) ∙ sym x;
+      ordered = refl;
+      counted = rw x
+          (ends_with a.board.now (head_of a.board.now a.h) l.round.m c.in-Closed.winner l.count c.in-Ok.read.count c.requires.high
           (omega (arith, ap (λ (y : Gone). y.outs) t.1, l.invariant.1, l.invariant.0.early)) t.2
           (sheets_many a.h.n l.count l.invariant.2 ∙ l.invariant.1) l.invariant.4 t.3);
     }
 
--- the round stays open
-opens : (c : goal.In-Open) → let Comes : (RoundOutcome → Type 0) = λ o. let a = c.args in let l = c.loop-why in RoundComes a.board.now a.h l.count l.round.m l.round.a o c.read_round-read.result.count in
-    Comes (Open c.in-Open.out c.in-Open.next c.in-Open.number)
-opens c = rw c.in-Open.is at c.read_round-read.ensures
-
-pub loop-why-preserved : goal.loop-why-preserved
-unfolding RoundComes
-loop-why-preserved c =
+pub loop-read-preserved : goal.loop-read-preserved
+unfolding Rounded RoundComes
+loop-read-preserved c =
     let a = c.args in
-    let l = c.loop-why in
-    let o = opens (goal.at.loop-why-preserved c).In-Open in
+    let l = c.loop-read in
+    let Comes : (RoundOutcome → Type 0) = λ o. RoundComes a.board.now a.h l.count l.round.m l.round.a o c.in-Ok.read.count in
+    let o : Comes (Open c.in-Open.out c.in-Open.next c.in-Open.number) = rw c.in-Open.is at c.in-Ok.ensures in
     let H = head_of a.board.now a.h in
     rw c.next-round.ensures (
       begins_next a.board.now a.h l.place l.round l.invariant.0 (standing_of a.h.n l.count) _ _ (sheets_many a.h.n l.count l.invariant.2 ∙ l.invariant.1)
@@ -123,12 +114,3 @@ loop-why-preserved c =
       stops_later a.board.now H (stops_from sha256 a.board.now H a.h.n start 0 0) (standing_of a.h.n l.count) l.round.m
           l.round.a (omega (arith, l.invariant.0.early)) l.invariant.5 (open_here a.board.now H _ _ _ o.0) _ _ o.9 o.5,
     )
-
-pub read_round-read-requires : goal.read_round-read-requires
-read_round-read-requires c = (c.requires.0, c.loop-why.invariant.0, c.loop-why.invariant.2, c.loop-why.invariant.1)
-
-pub next-round-requires : goal.next-round-requires
-next-round-requires c = omega (arith, c.loop-why.invariant.0.early, c.requires.0.high)
-
-pub loop-why-smaller : goal.loop-why-smaller
-loop-why-smaller c = rw c.next-round.ensures (omega (arith, c.loop-why.invariant.0.early))

@@ -9,12 +9,12 @@ use Rattle.round.specs.Rounds.{Begins}
 use Rattle.checker.specs.Counts.{stops_from}
 use Rattle.checker.proofs.rounds.Given as goal
 
-abbrev pub invariant-loop-why : goal.invariant-loop-why
-invariant-loop-why l =
-    Begins l.board l.head l.place l.round × (l.count.gone.outs ≡ l.round.m) × Kept l.count
-    × (check_from sha256 l.board (head_of l.board l.head) l.n start 0 0 ≡ check_from sha256 l.board (head_of l.board l.head) (l.n - l.round.m) (standing_of l.n l.count) l.round.m l.round.a)
-    × ((standing_of l.n l.count).sheets ≡ table l.round.m (counts l.board (head_of l.board l.head)))
-    × (stops_from sha256 l.board (head_of l.board l.head) l.n start 0 0 ≡ stops_from sha256 l.board (head_of l.board l.head) (l.n - l.round.m) (standing_of l.n l.count) l.round.m l.round.a)
+abbrev pub invariant-loop-read : goal.invariant-loop-read
+invariant-loop-read l =
+    Begins l.board l.h l.place l.round × (l.count.gone.outs ≡ l.round.m) × Kept l.count
+    × (check_from sha256 l.board (head_of l.board l.h) l.h.n start 0 0 ≡ check_from sha256 l.board (head_of l.board l.h) (l.h.n - l.round.m) (standing_of l.h.n l.count) l.round.m l.round.a)
+    × ((standing_of l.h.n l.count).sheets ≡ table l.round.m (counts l.board (head_of l.board l.h)))
+    × (stops_from sha256 l.board (head_of l.board l.h) l.h.n start 0 0 ≡ stops_from sha256 l.board (head_of l.board l.h) (l.h.n - l.round.m) (standing_of l.h.n l.count) l.round.m l.round.a)
 
-abbrev pub decreases-loop-why : goal.decreases-loop-why
-decreases-loop-why l = l.n - l.round.m
+abbrev pub decreases-loop-read : goal.decreases-loop-read
+decreases-loop-read l = l.h.n - l.round.m

@@ -1,33 +1,26 @@
-use Prim.Native.Nat.{ℕ, ◌/◌, ◌%◌}
-use mathlib.Core.Path.{◌∙◌}
-use mathlib.Core.List.{List}
+use mathlib.Core.Path.{◌≡◌, sym, ◌∙◌}
+use mathlib.Core.Bool.{false, true≢false}
+use mathlib.Core.Logic.{⊎_elim}
 use native.Mathlib.Omega.{arith}
-use lib.ListN.{length}
-use borrow.Author.Tests.{eq-eqb, ne_eqb, le-leb, lt-leb}
-use Rattle.numbers.proofs.Tests.{all_none}
+use borrow.Author.Rules.{rules}
+use borrow.Author.Tests.{eqb-true, eq-eqb}
 use Rattle.rules.specs.Receipts.{digests_good}
-use Rattle.digests.proofs.digests_good.Goals.{Start}
+use Rattle.digests.proofs.Chunks.{listed}
+use Rattle.digests.proofs.Good.{bytes_left, too_many, by_order, sorted}
 use Rattle.digests.proofs.digests_good.Goals as goal
 
-abbrev digests : (s : goal.Start) → List ℕ
-digests s = s.args.digests.now
+pub returns-then-list-le500 : goal.returns-then-list-le500
+returns-then-list-le500 c =
+    let d = c.args.lent.now in
+    let w = c.if-list-le500.true in
+    sorted d _ (rw c.as_chunks.ensures.front (listed d)) _ c.is_sorted.ensures.cases
+    ∙ sym (by_order d (sym c.as_chunks.ensures.back_len ∙ eqb-true _ 0 (sym c.is_empty.ensures ∙ w.0)) (omega (arith, c.as_chunks.ensures.front_len, w.1)))
 
-pub returns-then-digests-ne0 : goal.returns-then-digests-ne0
-unfolding digests_good
-returns-then-digests-ne0 c = rw (ne_eqb (length (digests (goal.at.returns-then-digests-ne0 c).Start) % 32) 0 c.if-digests-ne0.true)
-
-pub returns-then-count-gt500 : goal.returns-then-count-gt500
-unfolding digests_good
-returns-then-count-gt500 c = let d = digests (goal.at.returns-then-count-gt500 c).Start in rw (eq-eqb (length d % 32) 0 c.if-digests-ne0.false, lt-leb (length d / 32) 500 c.if-count-gt500.true)
-
-pub returns-then-count-eq0 : goal.returns-then-count-eq0
-unfolding digests_good
-returns-then-count-eq0 c =
-    let d = digests (goal.at.returns-then-count-eq0 c).Start in
-    rw (eq-eqb (length d % 32) 0 c.if-digests-ne0.false, le-leb (length d / 32) 500 (omega arith), c.if-count-eq0.true, all_none)
-
-pub returns : goal.returns
-unfolding digests_good
-returns c =
-    let d = digests (goal.at.returns c).Start in
-    c.rising.ensures ∙ rw (eq-eqb (length d % 32) 0 c.if-digests-ne0.false, le-leb (length d / 32) 500 (omega arith))
+pub returns-else-list-le500 : goal.returns-else-list-le500
+returns-else-list-le500 c =
+    let d = c.args.lent.now in
+    let bad : digests_good d ≡ false =
+    ⊎_elim (λ w. too_many d (sym c.as_chunks.ensures.back_len ∙ eqb-true _ 0 (sym c.is_empty.ensures ∙ w.0)) (omega (arith, c.as_chunks.ensures.front_len, w.1)))
+    (λ w. bytes_left d (λ e. true≢false (sym (eq-eqb _ 0 (c.as_chunks.ensures.back_len ∙ e)) ∙ sym c.is_empty.ensures ∙ w)))
+    c.if-list-le500.either in
+    rw bad (search rules)

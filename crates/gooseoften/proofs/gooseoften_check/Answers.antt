@@ -7,16 +7,16 @@ use Rattle.gooseoften.proofs.gooseoften_check.Goals as goal
 
 pub put_verdict-requires : goal.put_verdict-requires
 put_verdict-requires c =
-    let r = c.check-checked in
+    let r = c.check in
     record {
       in_bounds = omega (arith, c.well_formed);
-      verdict_bound = placed c.args.board.now r.result.answer r.result.order r.ensures.0;
+      verdict_bound = placed c.args.board.now r.result r.ensures.verdict;
     }
 
 pub returns : goal.returns
 returns c =
     let f = c.args in
-    let r = c.check-checked in
+    let r = c.check in
     let e = c.put_verdict.ensures in
-    let w = checked (check_board sha256 f.board.now) f.answer.now _ r.result.answer r.result.order _ r.ensures.0 r.ensures.1 e.value e.answer_after in
+    let w = checked (check_board sha256 f.board.now) f.answer.now _ r.result _ r.ensures.verdict r.ensures.order e.value e.answer_after in
     record { value = w.0; answer_after = w.1 }

@@ -1,34 +1,17 @@
-use Prim.Native.Nat.{suc}
-use mathlib.Core.Path.{sym, ◌∙◌}
-use native.Mathlib.Numerals.{add-one}
+use Prim.Native.Nat.{◌+◌}
+use mathlib.Core.Path.{◌∙◌, refl}
+use borrow.Author.Tests.{tests}
 use native.Mathlib.Omega.{arith}
-use Rattle.numbers.proofs.Tests.{all_none, all_more, all_fails, all_end}
+use Rattle.std.proofs.Common.{rules}
+use Rattle.std.proofs.lemmas.Iterator.{YieldsList-from_range}
+use Rattle.std.proofs.lemmas.Iterator.Search.{all_from_yields_List}
 use Rattle.rules.specs.Bytes.{part}
 use Rattle.rules.specs.Count.{member}
-use Rattle.openings.proofs.Rankings.{ranking_is}
+use Rattle.openings.proofs.Rankings.{all_is_ranking}
 use Rattle.openings.proofs.is_ranking.Goals as goal
-
-pub returns-then-not-lists : goal.returns-then-not-lists
-returns-then-not-lists c =
-    let l = c.loop-i in
-    let f = c.args in
-    let r = part f.s.now f.at f.n in
-    sym (all_fails f.n l.i (λ j. member (suc j) r) (omega arith) (rw (← add-one) (sym c.lists.ensures ∙ c.if-not-lists.true)))
-    ∙ ranking_is f.s.now f.at f.n c.requires
-
-pub loop-i-preserved : goal.loop-i-preserved
-loop-i-preserved c =
-    let l = c.loop-i in
-    let f = c.args in
-    let r = part f.s.now f.at f.n in
-    (omega arith, all_more l.i (λ j. member (suc j) r) l.invariant.1 (rw (← add-one) (sym c.lists.ensures ∙ c.if-not-lists.false)))
 
 pub returns : goal.returns
 returns c =
-    let l = c.loop-i in
-    let f = c.args in
-    sym (all_end f.n l.i (λ j. member (suc j) (part f.s.now f.at f.n)) l.invariant.0 (omega arith) l.invariant.1)
-    ∙ ranking_is f.s.now f.at f.n c.requires
-
-pub loop-i-init : goal.loop-i-init
-loop-i-init c = (omega arith, all_none _)
+    let a = c.args in
+    all_from_yields_List (λ i. member (i + 1) (part a.s.now a.at a.n)) _ _ _ c.all.ensures.ran (YieldsList-from_range 0 a.n a.n refl (omega arith)) (λ x b q k. search (rules, tests))
+    ∙ all_is_ranking a.s.now a.at a.n c.requires

@@ -1,29 +1,32 @@
-use mathlib.Core.Path.{◌≡◌, sym, ◌∙◌}
+use mathlib.Core.Path.{◌≡◌}
 use mathlib.Core.Bool.{true}
+use native.Mathlib.Omega.{arith}
 use lib.ListN.{length}
-use borrow.Author.Rules.{rules}
-use Rattle.rules.proofs.Digests.{few_digests, rising}
+use Rattle.rules.specs.Receipts.{digest_count, digests_good}
 use Rattle.receipts.proofs.Answering.{list_bad, list_short, list_fine, refuses}
+use Rattle.receipts.proofs.find.Goals.{In-Some, After-count}
 use Rattle.receipts.proofs.find.Goals as goal
 
-pub returns-then-not-good : goal.returns-then-not-good
-returns-then-not-good c =
-    let w = refuses _ _ _ _ (list_bad _ _ _ (sym c.digests_good-good.ensures ∙ c.if-not-good.true)) in
+pub returns-in_default : goal.returns-in_default
+returns-in_default c =
+    let w = refuses _ _ _ _ (list_bad _ _ _ c.in_default.ensures) in
     record { found_after = w.0; found_after_2 = w.1 }
+
+-- these are the lent digests
+good : (c : goal.In-Some) → digests_good c.args.digests.now ≡ true
+good c = rw c.in-Some.ensures at c.in-Some.digests.good
+
+counted : (c : goal.After-count) → c.count.result ≡ digest_count c.args.digests.now
+counted c = rw c.in-Some.ensures at c.count.ensures.0
 
 pub returns-then-not-fits : goal.returns-then-not-fits
 returns-then-not-fits c =
-    let good : c.digests_good-good.result ≡ true = cc in
-    let w = refuses _ _ _ _ (list_short _ _ _ (sym c.digests_good-good.ensures ∙ good) c.if-not-fits.true) in
+    let w = refuses _ _ _ _ (list_short _ _ _ (good (goal.at.returns-then-not-fits c).In-Some) (omega (arith, counted (goal.at.returns-then-not-fits c).After-count))) in
     record { found_after = w.0; found_after_2 = w.1 }
-
-pub find_on_board-requires : goal.find_on_board-requires
-find_on_board-requires c =
-    let good = sym c.digests_good-good.ensures ∙ c.if-not-good.false in
-    (record { ordered = rising _ good }, search rules, few_digests _ good, c.if-not-fits.false)
 
 pub returns : goal.returns
 returns c =
     let a = c.args in
-    let fine = list_fine a.board.now a.digests.now (length a.found.now) (sym c.digests_good-good.ensures ∙ c.if-not-good.false) c.if-not-fits.false in
-    record { found_after = rw fine c.find_on_board.ensures.found_after; found_after_2 = rw fine c.find_on_board.ensures.found_after_2 }
+    let fine = list_fine a.board.now a.digests.now (length a.found.now) (good (goal.at.returns c).In-Some) (omega (arith, counted (goal.at.returns c).After-count)) in
+    let told = rw c.in-Some.ensures at c.find_on_board.ensures in
+    record { found_after = rw fine told.found_after; found_after_2 = rw fine told.found_after_2 }

@@ -13,20 +13,16 @@ use Rattle.round.proofs.past_record.Goals as goal
 kind_of_lem : (c : goal.After-kind-kind) → let a = c.args in c.kind-kind.result ≡ kind a.board.now (head_of a.board.now a.h) a.walk.k
 kind_of_lem c = kind_read c.args.board.now c.args.h c.requires.header_known.0 c.args.round c.args.at c.args.walk c.requires.header_known.1 _ c.kind-kind.ensures
 
-pub tally_after-tally-requires : goal.tally_after-tally-requires
+pub tally_after-requires-clause-ready : goal.tally_after-requires-clause-ready
+tally_after-requires-clause-ready c =
+    let v = c.requires.header_known.1 in
+    (c.requires.header_known.0.ready, c.requires.header_known.0.high, omega (arith, v.fits, c.well_formed), few_ballots c.args.board.now c.args.h c.requires.header_known.0 c.args.round c.args.at c.args.walk v c.requires.header_known.2)
+
+pub tally_after-requires-clause-n_in_bounds : goal.tally_after-requires-clause-n_in_bounds
 unfolding Passes
-tally_after-tally-requires c =
-    let v = c.requires.header_known.1 in record {
-      ready = (
-        c.requires.header_known.0.ready,
-        c.requires.header_known.0.high,
-        omega (arith, v.fits, c.well_formed),
-        v.tallied.b_long,
-        v.tallied.y_long,
-        few_ballots c.args.board.now c.args.h c.requires.header_known.0 c.args.round c.args.at c.args.walk v c.requires.header_known.2,
-      );
-      n_in_bounds = λ z. row_fits c.args.board.now c.args.h c.requires.header_known.0 c.args.round c.args.at c.args.walk v c.requires.header_known.3 (eq-eqb _ 0 (sym (kind_of_lem (goal.at.tally_after-tally-requires c).After-kind-kind) ∙ z)) c.requires.record_passes.2;
-    }
+tally_after-requires-clause-n_in_bounds c =
+    let same = kind_of_lem (goal.at.tally_after-requires-clause-n_in_bounds c).After-kind-kind in
+    λ z. row_fits c.args.board.now c.args.h c.requires.header_known.0 c.args.round c.args.at c.args.walk c.requires.header_known.1 c.requires.header_known.3 (eq-eqb _ 0 (sym same ∙ z)) c.requires.record_passes.2
 
 small : (c : goal.After-kind-kind) → c.args.walk.number + 2 < 2 ^ 64
 small c = number_small c.args.board.now c.args.h c.requires.header_known.0 c.args.round.m c.args.walk.k _ c.requires.header_known.3 c.requires.header_known.1.few c.requires.header_known.1.numbered
@@ -36,21 +32,12 @@ returns c =
     let same = kind_of_lem (goal.at.returns c).After-kind-kind in (
       walked_more c.args.board.now c.args.h c.requires.header_known.0 c.args.round c.args.at c.args.walk c.requires.header_known.1 _ c.requires.record_passes c.requires.header_known.2 _ _ _ _
           c.earlier_length.ensures.1 (λ d z. rw (← same) (c.earlier_length.ensures.2 d z)) (rw (← same) c.records_of.ensures.0) (rw (← same) c.ballot_length.ensures.0)
-          (rw (← same) c.tally_after-tally.ensures),
+          (rw (← same) c.tally_after.ensures),
       refl,
     )
 
 pub overflow_add-result-3 : goal.overflow_add-result-3
 overflow_add-result-3 c = omega (arith, earlier_small c.args.board.now c.args.h c.requires.header_known.0 c.args.round c.args.at c.args.walk c.requires.header_known.1, c.earlier_length.ensures.0, c.well_formed)
-
-pub overflow_add-result-4 : goal.overflow_add-result-4
-overflow_add-result-4 c = omega (arith, c.requires.header_known.1.ballot_fits, c.ballot_length.ensures.1, c.well_formed)
-
-pub kind-kind-requires : goal.kind-kind-requires
-kind-kind-requires c = c.requires.header_known.1.ballot_fits
-
-pub overflow_add-result : goal.overflow_add-result
-overflow_add-result c = omega (arith, c.requires.header_known.2, c.requires.header_known.0.few)
 
 pub overflow_add-result-2 : goal.overflow_add-result-2
 overflow_add-result-2 c = omega (arith, small (goal.at.overflow_add-result-2 c).After-kind-kind, c.records_of.ensures.1)

@@ -28,13 +28,11 @@ round c = omega (arith, c.requires.3.further)
 pub pairs_from-before-requires : goal.pairs_from-before-requires
 pairs_from-before-requires c = omega (arith, earlier_small c.args.board.now c.args.h c.requires.0 c.args.round c.args.at c.args.walk c.requires.1, c.well_formed)
 
-pub read_shift-requires : goal.read_shift-requires
-read_shift-requires c =
-    let l = c.requires.3 in
-    let rows : c.args.h.n - c.args.round.m + 1 ≡ c.args.h.n - (c.args.round.m - 1) = omega (arith, l.early, round (goal.at.read_shift-requires c).Else-audited) in record {
-      header_known = (c.requires.0, c.requires.1.fits, l.further, omega (arith, l.early), l.low, l.high);
-      n_in_bounds = rw (rows, c.pairs_from-before.ensures) (earlier_pairs c.args.board.now c.args.h c.requires.0 c.args.round c.args.at c.args.walk c.requires.1 _ (round (goal.at.read_shift-requires c).Else-audited) c.requires.2 (counted (goal.at.read_shift-requires c).Else-audited));
-    }
+pub read_shift-requires-clause-n_in_bounds : goal.read_shift-requires-clause-n_in_bounds
+read_shift-requires-clause-n_in_bounds c =
+    let at = (goal.at.read_shift-requires-clause-n_in_bounds c).Else-audited in
+    let rows : c.args.h.n - c.args.round.m + 1 ≡ c.args.h.n - (c.args.round.m - 1) = omega (arith, c.requires.3.early, round at) in
+    rw (rows, c.pairs_from-before.ensures) (earlier_pairs c.args.board.now c.args.h c.requires.0 c.args.round c.args.at c.args.walk c.requires.1 _ (round at) c.requires.2 (counted at))
 
 pub returns-then-audited : goal.returns-then-audited
 returns-then-audited c =
@@ -45,12 +43,3 @@ pub returns : goal.returns
 returns c =
     later_shift c.args.board.now c.args.h _ _ _ _ _ _ _ (round (goal.at.returns c).Else-audited) (counted (goal.at.returns c).Else-audited) c.requires.1.here
     (c.pairs_from-before.ensures ∙ rw (c.requires.1.earlier _ (round (goal.at.returns c).Else-audited))) c.read_shift.ensures
-
-pub kind-audited-requires : goal.kind-audited-requires
-kind-audited-requires c = c.requires.1.ballot_fits
-
-pub overflow_sub-m : goal.overflow_sub-m
-overflow_sub-m c = omega (arith, c.requires.3.further)
-
-pub overflow_add-walk : goal.overflow_add-walk
-overflow_add-walk c = omega (arith, c.requires.2, c.requires.0.few)

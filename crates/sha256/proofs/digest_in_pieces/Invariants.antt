@@ -1,10 +1,7 @@
-use Rattle.std.proofs.Common.{◌≡◌, ◌-◌, ◌≤◌, length, drop}
+use Rattle.std.proofs.Common.{◌≡◌, ◌≤◌, length, drop}
 use Rattle.sha256.specs.Stream.{empty, feed_all, pieces_from}
 use Rattle.sha256.specs.Feed.{stream_of}
 use Rattle.sha256.proofs.digest_in_pieces.Given as goal
 
 abbrev pub invariant-loop-cut : goal.invariant-loop-cut
-invariant-loop-cut l = (l.at ≤ length l.message) × (l.i ≤ length l.cuts) × (feed_all (stream_of l.h) (pieces_from l.message l.at (drop l.i l.cuts)) ≡ feed_all empty (pieces_from l.message 0 l.cuts))
-
-abbrev pub decreases-loop-cut : goal.decreases-loop-cut
-decreases-loop-cut l = length l.cuts - l.i
+invariant-loop-cut l = (l.at ≤ length l.message) × (feed_all (stream_of l.h) (pieces_from l.message l.at (drop l.cut-index l.cuts)) ≡ feed_all empty (pieces_from l.message 0 l.cuts))

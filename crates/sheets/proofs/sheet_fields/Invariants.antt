@@ -1,4 +1,4 @@
-use Prim.Native.Nat.{ℕ, ◌+◌, ◌*◌, ◌-◌, ◌≤◌, ◌<◌}
+use Prim.Native.Nat.{ℕ, ◌+◌, ◌*◌, ◌<◌}
 use mathlib.Core.Path.{◌≡◌}
 use mathlib.Core.Bool.{true}
 use lib.ListN.{length, take}
@@ -10,8 +10,5 @@ use Rattle.sheets.proofs.sheet_fields.Given as goal
 
 abbrev pub invariant-loop-i : goal.invariant-loop-i
 invariant-loop-i l =
-    (l.i ≤ l.n) × (l.place ≡ l.at + 4 + 6 * l.i) × (length l.counts ≡ 8) × (length l.s ≡ 8) × (all_below l.i (count_good l.board l.most l.q l.at) ≡ true)
+    (l.place ≡ l.at + 4 + 6 * l.i) × (length l.counts ≡ 8) × (length l.s ≡ 8) × (all_below l.i (count_good l.board l.most l.h.setup.group.q l.at) ≡ true)
     × (take l.i l.counts ≡ table l.i (λ i. number2 l.board (l.at + 4 + 6 * i))) × ((j : ℕ) → j < l.i → exponent_of l.s j ≡ number4 l.board (l.at + 6 + 6 * j))
-
-abbrev pub decreases-loop-i : goal.decreases-loop-i
-decreases-loop-i l = l.n - l.i

@@ -11,7 +11,7 @@ loop-preserved c =
     let l = c.loop in
     let b = c.args.byte in
     let e : (l.counter + 1) * 1000 ≡ l.counter * 1000 + 1000 = omega arith in
-    (omega arith, rw (e, ← replicate-append-replicate (l.counter * 1000) 1000 b) (fed_more _ _ l.invariant.1 _ _ c.update-next.ensures), refl)
+    (omega arith, rw (e, ← replicate-append-replicate (l.counter * 1000) 1000 b) (fed_more _ _ l.invariant.1 _ _ c.update-h.ensures), refl)
 
 pub loop-init : goal.loop-init
 loop-init c = (search rules, fed_none _ c.new-h.ensures, refl)

@@ -21,15 +21,6 @@ loop-c-preserved c =
     let g : ℕ → List ℕ = λ d. bytes4 (get_or f.draws.now (f.from + d) 0) in
     (omega arith, search rules, block_more g 4 l.c _ _ l.out _ (λ j h. refl) (mul_comm 4 l.c) l.invariant.2 c.put_number4.ensures)
 
-pub slice_bounds-put_number4-count : goal.slice_bounds-put_number4-count
-slice_bounds-put_number4-count c = omega (arith, c.requires, c.loop-c.invariant.1)
-
-pub slice_bounds-put_number4-start : goal.slice_bounds-put_number4-start
-slice_bounds-put_number4-start c = omega (arith, c.requires, c.loop-c.invariant.1)
-
-pub slice_bounds-put_number4-end : goal.slice_bounds-put_number4-end
-slice_bounds-put_number4-end c = omega (arith, c.requires, c.loop-c.invariant.1)
-
 pub put_number4-requires : goal.put_number4-requires
 put_number4-requires c = simp (length-take, length-drop) (omega (arith, c.requires, c.loop-c.invariant.1))
 

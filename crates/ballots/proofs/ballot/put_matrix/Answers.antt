@@ -12,12 +12,12 @@ use Rattle.ballots.proofs.ballot.put_matrix.Goals as goal
 pub write_pairs-requires : goal.write_pairs-requires
 write_pairs-requires c =
     let p = c.requires in
-    (p.0, p.1, p.2, p.2, omega (arith, p.5, cells c.args.n p.2), p.3, p.4)
+    (p.0, p.1, p.2, p.2, omega (arith, p.5, cells c.args.b.n p.2), p.3, p.4)
 
 pub returns : goal.returns
 returns c =
     let f = c.args in
-    let M = matrix_of (parameters_of f.g) f.n (λ k. get_or f.list k 0) f.draws.now f.from in
-    let few : length (pair_bytes f.n M f.n) ≤ length f.page.now = omega (arith, length_pairs f.n M f.n, cells f.n c.requires.2, c.requires.5) in
-    let w = front_stands (pair_bytes f.n M f.n) f.page.now _ c.write_pairs.ensures few in
+    let M = matrix_of (parameters_of f.g) f.b.n (λ k. get_or f.b.list k 0) f.draws.now f.b.from in
+    let few : length (pair_bytes f.b.n M f.b.n) ≤ length f.page.now = omega (arith, length_pairs f.b.n M f.b.n, cells f.b.n c.requires.2, c.requires.5) in
+    let w = front_stands (pair_bytes f.b.n M f.b.n) f.page.now _ c.write_pairs.ensures few in
     (w.0 ∙ c.requires.5, w.1)

@@ -47,29 +47,5 @@ opened-v-requires c =
     let p = c.requires in
     (row_few l.c f.n f.rows (omega (arith, p)) (omega (arith, p)) (omega (arith, l.invariant.2)), omega (arith, p, mod-lt l.c {m = f.n} (omega (arith, p))))
 
-pub overflow_mul-count : goal.overflow_mul-count
-overflow_mul-count c = omega (arith, few_pairs c.args.rows c.args.n (omega (arith, c.requires)) (omega (arith, c.requires)))
-
-pub overflow_mul-at : goal.overflow_mul-at
-overflow_mul-at c = omega (arith, c.loop-c.invariant.1)
-
-pub overflow_add-x : goal.overflow_add-x
-overflow_add-x c = omega (arith, c.requires, c.loop-c.invariant.1)
-
-pub bounds-draws-from : goal.bounds-draws-from
-bounds-draws-from c = omega (arith, c.requires, c.loop-c.invariant.2)
-
-pub slice_bounds-put_pair-count : goal.slice_bounds-put_pair-count
-slice_bounds-put_pair-count c = omega (arith, c.requires, c.loop-c.invariant.2, c.loop-c.invariant.3)
-
-pub slice_bounds-put_pair-start : goal.slice_bounds-put_pair-start
-slice_bounds-put_pair-start c = omega (arith, c.requires, c.loop-c.invariant.2, c.loop-c.invariant.3)
-
-pub slice_bounds-put_pair-end : goal.slice_bounds-put_pair-end
-slice_bounds-put_pair-end c = omega (arith, c.requires, c.loop-c.invariant.2, c.loop-c.invariant.3)
-
 pub put_pair-requires : goal.put_pair-requires
 put_pair-requires c = (omega (arith, c.requires), simp (length-take, length-drop) (omega (arith, c.requires, c.loop-c.invariant.2, c.loop-c.invariant.3)))
-
-pub overflow_step-c : goal.overflow_step-c
-overflow_step-c c = omega (arith, c.loop-c-test.true, c.loop-c.invariant.1)

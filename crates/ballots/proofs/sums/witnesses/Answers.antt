@@ -5,21 +5,21 @@ use native.Mathlib.Omega.{arith}
 use lib.ListN.{length, get_or, set, replicate}
 use Rattle.statements.proofs.Lines.{row_below}
 use Rattle.ballots.proofs.Secrets.{witnessed_none, witnessed_more, witness_first, witness_second, witness_later, source_within}
-use Rattle.ballots.proofs.sums.witnesses.Goals.{After-shared_slice_known-1, After-source_of-from}
+use Rattle.ballots.proofs.sums.witnesses.Goals.{Start, After-source_of-from}
 use Rattle.ballots.proofs.sums.witnesses.Goals as goal
 
 few : (rows n : ℕ) → rows < 8 → n ≤ 8 → rows * n ≤ 56
 few rows n h k = let u : rows * n ≤ 7 * n = mul-le-mul_right n (omega arith) in omega arith
 
 -- the struck row is within the matrix before
-row_in : (c : goal.After-shared_slice_known-1) → c.args.s.struck * c.args.s.n + c.args.s.n ≤ (c.args.s.rows + 1) * c.args.s.n
-row_in c = row_below (c.args.s.rows + 1) c.args.s.n c.args.s.struck (omega (arith, c.requires.n_nonzero))
+row_in : (s : goal.Start) → s.args.s.struck * s.args.s.n + s.args.s.n ≤ (s.args.s.rows + 1) * s.args.s.n
+row_in s = row_below (s.args.s.rows + 1) s.args.s.n s.args.s.struck (omega (arith, s.requires.n_nonzero))
 
-row_near : (c : goal.After-shared_slice_known-1) → c.args.s.old + c.args.s.struck * c.args.s.n + c.args.s.n < 2 ^ 40
-row_near c = omega (arith, (row_in c), c.requires.draws_below.0.near)
+row_near : (s : goal.Start) → s.args.s.old + s.args.s.struck * s.args.s.n + s.args.s.n < 2 ^ 40
+row_near s = omega (arith, row_in s, s.requires.draws_below.0.near)
 
-row_there : (c : goal.After-shared_slice_known-1) → c.args.s.old + c.args.s.struck * c.args.s.n + c.args.s.n ≤ length c.args.draws.now
-row_there c = omega (arith, (row_in c), c.requires.draws_below.0.enough)
+row_there : (s : goal.Start) → s.args.s.old + s.args.s.struck * s.args.s.n + s.args.s.n ≤ length s.args.draws.now
+row_there s = omega (arith, row_in s, s.requires.draws_below.0.enough)
 
 pub loop-c-init : goal.loop-c-init
 loop-c-init c =
@@ -62,56 +62,8 @@ returns c =
     let e : l.c ≡ f.s.rows * f.s.n = omega (arith, l.invariant.2) in
     rw (← e) l.invariant.3
 
-pub overflow_mul-count : goal.overflow_mul-count
-overflow_mul-count c = omega (arith, few c.args.s.rows c.args.s.n (omega (arith, c.requires.n_nonzero)) (omega (arith, c.requires.n_nonzero)))
-
-pub overflow_mul-row : goal.overflow_mul-row
-overflow_mul-row c = omega (arith, row_near c)
-
-pub overflow_add-row : goal.overflow_add-row
-overflow_add-row c = omega (arith, row_near c)
-
-pub overflow_add-w : goal.overflow_add-w
-overflow_add-w c = omega (arith, row_near c, c.requires.n_nonzero)
-
-pub offset_bounds-draws-row : goal.offset_bounds-draws-row
-offset_bounds-draws-row c = omega (arith, row_near c)
-
-pub bounds-draws-row : goal.bounds-draws-row
-bounds-draws-row c = omega (arith, row_there (goal.at.bounds-draws-row c).After-shared_slice_known-1, c.requires.n_nonzero)
-
 pub sum_of-requires : goal.sum_of-requires
-sum_of-requires c = (c.requires.draws_below.0.positive, omega (arith, c.requires.n_nonzero), omega arith, omega (arith, row_near (goal.at.sum_of-requires c).After-shared_slice_known-1), omega (arith, row_there (goal.at.sum_of-requires c).After-shared_slice_known-1, c.requires.n_nonzero))
+sum_of-requires c = (c.requires.draws_below.0.positive, omega (arith, c.requires.n_nonzero), omega arith, omega (arith, row_near (goal.at.sum_of-requires c).Start), omega (arith, row_there (goal.at.sum_of-requires c).Start, c.requires.n_nonzero))
 
 pub source_of-from-requires : goal.source_of-from-requires
 source_of-from-requires c = (omega (arith, c.requires.n_nonzero), omega (arith, c.requires.n_nonzero, c.loop-c.invariant.1))
-
-pub overflow_add-x : goal.overflow_add-x
-overflow_add-x c = omega (arith, c.requires.draws_below.1.near, c.loop-c.invariant.1, c.loop-c.invariant.2, c.loop-c-test.true)
-
-pub offset_bounds-draws-new : goal.offset_bounds-draws-new
-offset_bounds-draws-new c = omega (arith, c.requires.draws_below.1.near, c.loop-c.invariant.1, c.loop-c.invariant.2, c.loop-c-test.true)
-
-pub bounds-draws-new : goal.bounds-draws-new
-bounds-draws-new c = omega (arith, c.requires.draws_below.1.enough, c.loop-c.invariant.2, c.loop-c-test.true)
-
-pub overflow_add-y : goal.overflow_add-y
-overflow_add-y c = omega (arith, c.requires.draws_below.0.near, source_in (goal.at.overflow_add-y c).After-source_of-from)
-
-pub offset_bounds-draws-old : goal.offset_bounds-draws-old
-offset_bounds-draws-old c = omega (arith, c.requires.draws_below.0.near, source_in (goal.at.offset_bounds-draws-old c).After-source_of-from)
-
-pub bounds-draws-old : goal.bounds-draws-old
-bounds-draws-old c = omega (arith, c.requires.draws_below.0.enough, source_in (goal.at.bounds-draws-old c).After-source_of-from)
-
-pub overflow_add-w-in-loop-c : goal.overflow_add-w-in-loop-c
-overflow_add-w-in-loop-c c = omega (arith, c.loop-c.invariant.1, c.loop-c-test.true)
-
-pub offset_bounds-w-c : goal.offset_bounds-w-c
-offset_bounds-w-c c = omega (arith, c.loop-c.invariant.1, c.loop-c-test.true)
-
-pub bounds-w-c : goal.bounds-w-c
-bounds-w-c c = omega (arith, c.loop-c.invariant.1, c.loop-c-test.true, c.loop-c.invariant.3.long)
-
-pub overflow_step-c : goal.overflow_step-c
-overflow_step-c c = omega (arith, c.loop-c.invariant.1, c.loop-c-test.true)

@@ -19,7 +19,7 @@ use Rattle.boards.proofs.records.write_records.Goals.{In-loop-b, Start}
 use Rattle.boards.proofs.records.write_records.Goals as goal
 
 abbrev job_at : (s : goal.Start) → J.Job
-job_at s = board_job s.args.head s.args.label.now s.args.rankings.now s.args.kinds.now s.args.draws.now
+job_at s = board_job s.args.entries
 
 pub loop-b-init : goal.loop-b-init
 unfolding sum_below concat_below
@@ -27,28 +27,27 @@ loop-b-init c = (omega arith, refl, refl, omega arith, λ j e. omega arith, omeg
 
 -- the record and its end are within the records
 within : (c : goal.In-loop-b) → let f = c.args in
-    let l = c.loop-b in l.at + record_length f.head.n (get_or f.kinds.now l.b 0) f.plan.m ≤ length f.out.now
+    let l = c.loop-b in l.at + record_length f.entries.head.n (get_or f.entries.kinds.now l.b 0) f.plan.m ≤ length f.out.now
 within c =
     let f = c.args in
     let l = c.loop-b in
-    omega (arith, sum_within f.head.k l.b (λ i. record_length f.head.n (get_or f.kinds.now i 0) f.plan.m) (omega arith), l.invariant.2, c.requires.2)
+    omega (arith, sum_within f.entries.head.k l.b (λ i. record_length f.entries.head.n (get_or f.entries.kinds.now i 0) f.plan.m) (omega arith), l.invariant.2, c.requires.1)
 
 -- the round's draws are few
 near : (s : goal.Start) → s.args.plan.new ≤ 10000000
 near s =
     let job = job_at s in
-    omega (arith, s.requires.1.new, s.requires.1.low, draws_mono job.n (kind_of job) job.K s.args.plan.m (suc s.args.plan.m) (omega arith))
+    omega (arith, s.requires.0.new, s.requires.0.low, draws_mono job.n (kind_of job) job.K s.args.plan.m (suc s.args.plan.m) (omega arith))
 
 pub write_record-requires : goal.write_record-requires
 write_record-requires c =
     let l = c.loop-b in
     let p = c.requires in (
-      p.0,
       record {
-        round = p.1;
+        round = p.0;
         below = omega (arith, c.loop-b-test.true);
-        new = l.invariant.3 ∙ rw p.1.new;
-        old = λ j e. l.invariant.4 j e ∙ rw (p.1.later j e).old;
+        new = l.invariant.3 ∙ rw p.0.new;
+        old = λ j e. l.invariant.4 j e ∙ rw (p.0.later j e).old;
       },
       simp (length-take, length-drop) (omega (arith, within (goal.at.write_record-requires c).In-loop-b, l.invariant.1)),
     )
@@ -57,17 +56,17 @@ pub loop-b-preserved : goal.loop-b-preserved
 loop-b-preserved c =
     let f = c.args in
     let l = c.loop-b in
-    let kind : ℕ → ℕ = λ i. get_or f.kinds.now i 0 in
-    let told = c.wide-kind.ensures in
+    let kind : ℕ → ℕ = λ i. get_or f.entries.kinds.now i 0 in
+    let told = c.from-kind.ensures in
     let size = c.record_length-at.ensures in
     let was = c.draws_before-old.ensures in
     let own = c.record_draws-new.ensures in
-    let g = head_group f.head in (
+    let g = head_group f.entries.head in (
       omega (arith, c.loop-b-test.true),
       search rules,
-      sum_more l.b l.at _ (λ i. record_length f.head.n (kind i) f.plan.m) l.invariant.2 (size.0 ∙ rw told),
-      omega (arith, l.invariant.3, sum_more l.b _ _ (λ i. record_draws f.head.n (kind i) f.plan.m) refl (own.0 ∙ rw told)),
-      λ j e. omega (arith, l.invariant.4 j e, sum_more l.b _ _ (λ i. record_draws f.head.n (kind i) j) refl (was.0 j e ∙ rw told)),
+      sum_more l.b l.at _ (λ i. record_length f.entries.head.n (kind i) f.plan.m) l.invariant.2 (size.0 ∙ rw told),
+      omega (arith, l.invariant.3, sum_more l.b _ _ (λ i. record_draws f.entries.head.n (kind i) f.plan.m) refl (own.0 ∙ rw told)),
+      λ j e. omega (arith, l.invariant.4 j e, sum_more l.b _ _ (λ i. record_draws f.entries.head.n (kind i) j) refl (was.0 j e ∙ rw told)),
       omega (arith, l.invariant.5, own.1),
       omega (arith, l.invariant.6, was.1),
       omega (arith, l.invariant.7, size.1),
@@ -78,7 +77,7 @@ loop-b-preserved c =
 pub returns : goal.returns
 returns c =
     let l = c.loop-b in
-    let e : l.b ≡ c.args.head.k = omega arith in
+    let e : l.b ≡ c.args.entries.head.k = omega arith in
     (l.invariant.2 ∙ rw e, l.invariant.8 ∙ rw e)
 
 pub slice_bounds-write_record-count : goal.slice_bounds-write_record-count
@@ -87,14 +86,5 @@ slice_bounds-write_record-count c = omega (arith, within (goal.at.slice_bounds-w
 pub slice_bounds-write_record-start : goal.slice_bounds-write_record-start
 slice_bounds-write_record-start c = omega (arith, within (goal.at.slice_bounds-write_record-start c).In-loop-b, c.loop-b.invariant.1)
 
-pub slice_bounds-write_record-end : goal.slice_bounds-write_record-end
-slice_bounds-write_record-end c = omega (arith, within (goal.at.slice_bounds-write_record-end c).In-loop-b, c.loop-b.invariant.1)
-
-pub overflow_add-at : goal.overflow_add-at
-overflow_add-at c = omega (arith, c.loop-b.invariant.7, c.record_length-at.ensures.1, c.requires.1.K_high)
-
-pub overflow_add-old : goal.overflow_add-old
-overflow_add-old c = omega (arith, c.loop-b.invariant.6, c.draws_before-old.ensures.1, c.requires.1.K_high, c.requires.1.old_low)
-
 pub overflow_add-new : goal.overflow_add-new
-overflow_add-new c = omega (arith, c.loop-b.invariant.5, c.record_draws-new.ensures.1, c.requires.1.K_high, near (goal.at.overflow_add-new c).Start)
+overflow_add-new c = omega (arith, c.loop-b.invariant.5, c.record_draws-new.ensures.1, c.requires.0.K_high, near (goal.at.overflow_add-new c).Start)

@@ -16,22 +16,21 @@ use Rattle.boards.proofs.rounds.write_round.Goals.{Start}
 use Rattle.boards.proofs.rounds.write_round.Goals as goal
 
 abbrev job_at : (s : goal.Start) → J.Job
-job_at s = board_job s.args.head s.args.label.now s.args.rankings.now s.args.kinds.now s.args.draws.now
+job_at s = board_job s.args.entries
 
 pub write_sheet-requires : goal.write_sheet-requires
 write_sheet-requires c =
     let f = c.args in
-    let p = c.requires.1 in
+    let p = c.requires.0 in
     let job = job_at (goal.at.write_sheet-requires c).Start in
     let m = f.plan.m in record {
-      q_nonzero = (
-        p.drawn.positive,
+      n_high = (
         p.n_high,
         omega (arith, p.early),
         p.K_high,
         omega (arith, p.kinds),
         omega (arith, p.new, p.low, draws_mono job.n (kind_of job) job.K m (suc m) (omega arith)),
-        simp (length-take, length-drop) (omega (arith, c.requires.2, c.write_records-at.ensures.0, c, c)),
+        simp (length-take, length-drop) (omega (arith, c.requires.1, c.write_records-at.ensures.0, c, c)),
       );
       by_index = λ b h k. omega (arith, p.new, columns_within job.n (kind_of job) job.K m b (omega (arith, p.early)) h k, p.drawn.enough);
     }
@@ -39,20 +38,11 @@ write_sheet-requires c =
 pub returns : goal.returns
 returns c =
     let f = c.args in
-    let g = head_group f.head in
+    let g = head_group f.entries.head in
     let job = job_at (goal.at.returns c).Start in
     let r = c.write_records-at in
     more _ _ _ _ _ _ (length_records sha256 job g (list_of f.plan.before) f.plan.a f.plan.m job.K ∙ sym r.ensures.0) r.ensures.1 c.write_sheet.ensures
-    ∙ ap (λ (x : List ℕ). written (plan_records sha256 job g f.plan ++ x) f.out.now) (from_round job g f.plan c.requires.1.new)
+    ∙ ap (λ (x : List ℕ). written (plan_records sha256 job g f.plan ++ x) f.out.now) (from_round job g f.plan c.requires.0.new)
 
 pub write_records-at-requires : goal.write_records-at-requires
-write_records-at-requires c = let p = c.requires in (p.0, p.1, omega (arith, p.2))
-
-pub slice_bounds-write_sheet-count : goal.slice_bounds-write_sheet-count
-slice_bounds-write_sheet-count c = omega (arith, c.requires.2, c.write_records-at.ensures.0, c, c)
-
-pub slice_bounds-write_sheet-start : goal.slice_bounds-write_sheet-start
-slice_bounds-write_sheet-start c = omega (arith, c.requires.2, c.write_records-at.ensures.0, c, c)
-
-pub slice_bounds-write_sheet-end : goal.slice_bounds-write_sheet-end
-slice_bounds-write_sheet-end c = omega (arith, c.requires.2, c.write_records-at.ensures.0, c, c)
+write_records-at-requires c = let p = c.requires in (p.0, omega (arith, p.1))

@@ -17,38 +17,37 @@ use Rattle.boards.proofs.rounds.write_rounds.Goals.{In-loop-m, Start}
 use Rattle.boards.proofs.rounds.write_rounds.Goals as goal
 
 abbrev job_at : (s : goal.Start) → J.Job
-job_at s = board_job s.args.head s.args.label.now s.args.rankings.now s.args.kinds.now s.args.draws.now
+job_at s = board_job s.args.entries
 
 pub loop-m-init : goal.loop-m-init
 unfolding concat_below round_at round_draws
 loop-m-init c = (omega arith, refl, refl, refl, omega arith, refl, λ j e. absurd (omega arith), omega arith, none _)
 
 -- the round's number is below that of processes
-below : (c : goal.In-loop-m) → (c.args.head.n ≤ 8) × (c.loop-m.m < c.args.head.n) × (c.loop-m.m < c.args.count.gone.outs + 1)
+below : (c : goal.In-loop-m) → (c.args.entries.head.n ≤ 8) × (c.loop-m.m < c.args.entries.head.n) × (c.loop-m.m < c.args.count.gone.outs + 1)
 below c =
-    let p = c.requires.1 in
+    let p = c.requires.0 in
     (p.n_high, omega (arith, p.few, c.loop-m-test.true, c.loop-m.invariant.1), omega (arith, c.loop-m-test.true, c.loop-m.invariant.1))
 
 -- the round and its end are within the board
 within : (c : goal.In-loop-m) → let f = c.args in
-    let l = c.loop-m in l.at + sum_below f.head.k (λ i. record_length f.head.n (get_or f.kinds.now i 0) l.m) + sheet_length f.head.n ≤ length f.out.now
+    let l = c.loop-m in l.at + sum_below f.entries.head.k (λ i. record_length f.entries.head.n (get_or f.entries.kinds.now i 0) l.m) + sheet_length f.entries.head.n ≤ length f.out.now
 within c =
-    let job = job_at c.before.before.before.before.before.before.before.before.before in
+    let job = board_job c.args.entries in
     let l = c.loop-m in
-    omega (arith, place_next job.n (kind_of job) job.K l.m, place_mono job.n (kind_of job) job.K (l.m + 1) (c.args.count.gone.outs + 1) (omega (arith, below c)), c.requires.3, l.invariant.3)
+    omega (arith, place_next job.n (kind_of job) job.K l.m, place_mono job.n (kind_of job) job.K (l.m + 1) (c.args.count.gone.outs + 1) (omega (arith, below c)), c.requires.2, l.invariant.3)
 
 -- its draws are few
-near : (c : goal.In-loop-m) → draws_before (job_at c.before.before.before.before.before.before.before.before.before) c.loop-m.m ≤ 10000000
+near : (c : goal.In-loop-m) → draws_before (board_job c.args.entries) c.loop-m.m ≤ 10000000
 near c =
-    let job = job_at c.before.before.before.before.before.before.before.before.before in
-    omega (arith, draws_mono job.n (kind_of job) job.K c.loop-m.m (c.args.count.gone.outs + 1) (omega (arith, below c)), c.requires.1.low)
+    let job = board_job c.args.entries in
+    omega (arith, draws_mono job.n (kind_of job) job.K c.loop-m.m (c.args.count.gone.outs + 1) (omega (arith, below c)), c.requires.0.low)
 
 pub write_round-requires : goal.write_round-requires
 write_round-requires c =
     let l = c.loop-m in
     let w = c.plan_of-plan.ensures in (
-      c.requires.0,
-      round_ready (job_at (goal.at.write_round-requires c).Start) c.args.count (c.args.count.gone.outs + 1) l.m _ _ _ c.requires.1 (below (goal.at.write_round-requires c).In-loop-m).2 w l.invariant.5 l.invariant.6 l.invariant.7,
+      round_ready (job_at (goal.at.write_round-requires c).Start) c.args.count (c.args.count.gone.outs + 1) l.m _ _ _ c.requires.0 (below (goal.at.write_round-requires c).In-loop-m).2 w l.invariant.5 l.invariant.6 l.invariant.7,
       rw w.round (simp (length-take, length-drop) (omega (arith, within (goal.at.write_round-requires c).In-loop-m, l.invariant.2))),
     )
 
@@ -56,7 +55,7 @@ pub loop-m-preserved : goal.loop-m-preserved
 loop-m-preserved c =
     let l = c.loop-m in
     let f = c.args in
-    let g = head_group f.head in
+    let g = head_group f.entries.head in
     let job = job_at (goal.at.loop-m-preserved c).Start in
     let p = c.plan_of-plan.ensures in
     let m = c.measure_round-round.ensures in
@@ -70,7 +69,7 @@ loop-m-preserved c =
       λ j e. let z : l.m ≡ j = omega arith in l.invariant.5 ∙ ap (draws_before job) z,
       omega (arith, l.invariant.5, near (goal.at.loop-m-preserved c).In-loop-m),
       rounds_more sha256 job g f.count.gone.order l.m l.at _ l.out _ _ l.invariant.3 l.invariant.8
-          (plan_is sha256 job g f.count l.m _ _ _ p c.requires.2 (omega (arith, below (goal.at.loop-m-preserved c).In-loop-m))) c.write_round.ensures,
+          (plan_is sha256 job g f.count l.m _ _ _ p c.requires.1 (omega (arith, below (goal.at.loop-m-preserved c).In-loop-m))) c.write_round.ensures,
     )
 
 pub returns : goal.returns
@@ -78,9 +77,6 @@ returns c =
     let l = c.loop-m in
     let e : l.m ≡ c.args.count.gone.outs + 1 = omega (arith, l.invariant.1) in
     l.invariant.8 ∙ rw e
-
-pub overflow_add-end : goal.overflow_add-end
-overflow_add-end c = let p = c.requires in omega (arith, p.1.few, p.1.n_high)
 
 pub plan_of-plan-requires : goal.plan_of-plan-requires
 plan_of-plan-requires c = omega (arith, below c)
@@ -91,26 +87,11 @@ slice_bounds-write_round-count c = omega (arith, within (goal.at.slice_bounds-wr
 pub slice_bounds-write_round-start : goal.slice_bounds-write_round-start
 slice_bounds-write_round-start c = omega (arith, within (goal.at.slice_bounds-write_round-start c).In-loop-m, c.loop-m.invariant.2)
 
-pub slice_bounds-write_round-end : goal.slice_bounds-write_round-end
-slice_bounds-write_round-end c = omega (arith, within (goal.at.slice_bounds-write_round-end c).In-loop-m, c.loop-m.invariant.2)
-
 pub measure_round-round-requires : goal.measure_round-round-requires
-measure_round-round-requires c = let p = c.requires.1 in ((below (goal.at.measure_round-round-requires c).In-loop-m).0, (below (goal.at.measure_round-round-requires c).In-loop-m).1, p.K_high, omega (arith, p.kinds))
+measure_round-round-requires c = let p = c.requires.0 in ((below (goal.at.measure_round-round-requires c).In-loop-m).0, (below (goal.at.measure_round-round-requires c).In-loop-m).1, p.K_high, omega (arith, p.kinds))
 
 pub sheet_length-requires : goal.sheet_length-requires
 sheet_length-requires c = (below (goal.at.sheet_length-requires c).In-loop-m).0
 
-pub overflow_add-at : goal.overflow_add-at
-overflow_add-at c = omega (arith, c.measure_round-round.ensures.3, c.sheet_length.ensures.1)
-
-pub overflow_add-at-in-loop-m : goal.overflow_add-at-in-loop-m
-overflow_add-at-in-loop-m c = omega (arith, c.measure_round-round.ensures.3, c.sheet_length.ensures.1, c.loop-m.invariant.4, below (goal.at.overflow_add-at-in-loop-m c).In-loop-m)
-
 pub overflow_add-new : goal.overflow_add-new
 overflow_add-new c = omega (arith, c.measure_round-round.ensures.2, c.loop-m.invariant.5, near (goal.at.overflow_add-new c).In-loop-m)
-
-pub overflow_step-m : goal.overflow_step-m
-overflow_step-m c = omega (arith, below (goal.at.overflow_step-m c).In-loop-m)
-
-pub loop-m-smaller : goal.loop-m-smaller
-loop-m-smaller c = omega (arith, c.loop-m-test.true)

@@ -17,8 +17,8 @@ columns q n k m from kinds draws counts i = columns_to q n k (λ b. get_or kinds
 
 abbrev pub invariant-loop-i : goal.invariant-loop-i
 invariant-loop-i l =
-    (l.i ≤ l.n) × (length l.out ≡ length l.initial.out)
-    × ((front o : List ℕ) → length front ≡ 4 → l.initial.out ≡ written front o → l.out ≡ written (front ++ columns l.q l.n l.k l.m l.from l.kinds l.draws l.counts l.i) o)
+    (l.i ≤ l.entries.head.n) × (length l.out ≡ length l.initial.out)
+    × ((front o : List ℕ) → length front ≡ 4 → l.initial.out ≡ written front o → l.out ≡ written (front ++ columns l.entries.head.setup.group.q l.entries.head.n l.entries.head.k l.plan.m l.plan.new l.entries.kinds.now l.entries.draws.now l.plan.sheet.counts l.i) o)
 
 abbrev pub decreases-loop-i : goal.decreases-loop-i
-decreases-loop-i l = l.n - l.i
+decreases-loop-i l = l.entries.head.n - l.i

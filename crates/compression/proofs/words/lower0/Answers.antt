@@ -1,6 +1,6 @@
-use Rattle.compression.specs.Words.{σ₀}
+use Rattle.compression.specs.Words.{ROTR, σ₀}
 use Rattle.compression.proofs.words.lower0.Goals as goal
 
 pub returns : goal.returns
-unfolding σ₀
+unfolding σ₀ ROTR
 returns c = cc

@@ -1,6 +1,6 @@
-use Rattle.compression.specs.Words.{σ₁}
+use Rattle.compression.specs.Words.{ROTR, σ₁}
 use Rattle.compression.proofs.words.lower1.Goals as goal
 
 pub returns : goal.returns
-unfolding σ₁
+unfolding σ₁ ROTR
 returns c = cc

@@ -1,6 +1,6 @@
-use Rattle.compression.specs.Words.{Σ₁}
+use Rattle.compression.specs.Words.{ROTR, Σ₁}
 use Rattle.compression.proofs.words.upper1.Goals as goal
 
 pub returns : goal.returns
-unfolding Σ₁
+unfolding Σ₁ ROTR
 returns c = cc

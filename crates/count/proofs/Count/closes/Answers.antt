@@ -1,4 +1,4 @@
-use borrow.Author.Tests.{eq-eqb, ne_eqb}
+use Rattle.std.proofs.Common.{eq-eqb, ne_eqb}
 use Rattle.rules.specs.Count.{closes}
 use Rattle.count.proofs.Picks.{sheets_many}
 use Rattle.count.proofs.Count.closes.Goals as goal
@@ -9,8 +9,8 @@ returns-then-self-n c =
     let a = c.args in
     rw (sheets_many a.n a.self c.requires.0, eq-eqb _ _ c.if-self-n.true)
 
-pub returns : goal.returns
+pub returns-else-self-n : goal.returns-else-self-n
 unfolding closes
-returns c =
+returns-else-self-n c =
     let a = c.args in
     rw (sheets_many a.n a.self c.requires.0, ne_eqb _ _ c.if-self-n.false) c.majority.ensures

@@ -1,29 +1,34 @@
-use mathlib.Core.Path.{◌≡◌, ◌∙◌}
-use native.Mathlib.Omega.{arith}
-use Rattle.count.specs.State.{counts_on, standing_of}
-use Rattle.count.proofs.Picks.{picked_small, pick_none, pick_more}
+use Rattle.std.proofs.Common.{◌≡◌, ◌+◌, ◌-◌, sym, true≢false, eq-eqb, ◌∙◌, arith}
+use Rattle.count.specs.State.{list_of}
+use Rattle.count.proofs.Picks.{pick_none, pick_out, pick_first, pick_new, pick_old}
+use Rattle.count.proofs.Count.pick.Goals.{then-not-is_out+then-better, then-best-eq0, else-best-eq0, else-not-is_out, else-not-is_out-via-then-not-is_out+else-better, else-not-is_out-via-else-not-is_out}
 use Rattle.count.proofs.Count.pick.Goals as goal
 
-pub loop-i-init : goal.loop-i-init
-loop-i-init c =
-    let a = c.args in
-    (omega arith, omega arith, pick_none a.least (standing_of a.n a.self) (counts_on a.n a.sheet))
+pub loop-c-init : goal.loop-c-init
+loop-c-init g c = (omega arith, λ test told. pick_none (list_of c.args.self.gone) test)
 
-pub loop-i-preserved : goal.loop-i-preserved
-loop-i-preserved c =
-    let a = c.args in
-    let l = c.loop-i in
-    let st = standing_of a.n a.self in
-    let counts = counts_on a.n a.sheet in
-    let e = c.picked-best.ensures a.n c.loop-i-test.true (omega (arith, l.invariant.1)) in
-    (omega arith, rw e (picked_small a.least st counts l.best l.i l.invariant.1), e ∙ pick_more a.least st counts l.best l.i l.invariant.2)
+pub better-requires : goal.better-requires
+better-requires g c = c.requires.callable c.loop-c.best c.loop-c.c (omega arith) (omega arith) (omega arith) (omega arith)
 
-pub returns : goal.returns
-returns c =
-    let a = c.args in
-    let l = c.loop-i in
-    let e : l.i ≡ a.n = omega arith in
-    (rw e at l.invariant.2, omega arith)
-
-pub picked-best-requires : goal.picked-best-requires
-picked-best-requires c = (c.requires.0, omega arith, omega arith)
+pub loop-c-preserved : goal.loop-c-preserved
+loop-c-preserved g c =
+    let l = c.loop-c in
+    let gone = list_of c.args.self.gone in
+    let next : l.c + 1 - 1 ≡ l.c = omega arith in
+    (elim c.if-not-is_out.branch [
+      | then-not-is_out+then-better w ↦
+          let out = sym c.is_out.ensures ∙ w.if-not-is_out.true in
+          (elim w.if-best-eq0.branch [
+            | then-best-eq0 v ↦ (omega (arith, w.best-is), λ test told. rw next (w.best-is ∙ pick_first gone test l.c l.best (omega arith) (l.invariant.1 test told) out v.if-best-eq0.true))
+            | else-best-eq0 v ↦ (omega (arith, w.best-is), λ test told. rw next (w.best-is ∙ pick_new gone test l.c l.best (omega arith) (l.invariant.1 test told) out v.if-best-eq0.false (sym (told l.best l.c _ (omega arith) (omega arith) (omega arith) (omega arith) v.better.ensures) ∙ sym v.value-is ∙ w.if-better.true)))
+          ])
+      | else-not-is_out w ↦ (elim w.else-not-is_out.branch [
+        | else-not-is_out-via-then-not-is_out+else-better v ↦
+            let out = sym c.is_out.ensures ∙ v.if-not-is_out.true in
+            (elim v.if-best-eq0.branch [
+              | then-best-eq0 u ↦ absurd (true≢false (sym (eq-eqb l.best 0 u.if-best-eq0.true) ∙ sym u.value-is ∙ v.if-better.false))
+              | else-best-eq0 u ↦ (omega (arith, w.best-is), λ test told. rw next (w.best-is ∙ pick_old gone test l.c l.best (omega arith) (l.invariant.1 test told) out u.if-best-eq0.false (sym (told l.best l.c _ (omega arith) (omega arith) (omega arith) (omega arith) u.better.ensures) ∙ sym u.value-is ∙ v.if-better.false)))
+            ])
+        | else-not-is_out-via-else-not-is_out v ↦ (omega (arith, w.best-is), λ test told. rw next (w.best-is ∙ pick_out gone test l.c l.best (omega arith) (l.invariant.1 test told) (sym c.is_out.ensures ∙ v.if-not-is_out.false)))
+      ])
+    ])

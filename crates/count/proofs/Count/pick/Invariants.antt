@@ -1,10 +1,9 @@
-use Prim.Native.Nat.{◌-◌, ◌≤◌}
-use mathlib.Core.Path.{◌≡◌}
-use Rattle.count.specs.State.{pick_of, counts_on, standing_of}
+use Rattle.std.proofs.Common.{◌≡◌, ℕ, Bool, ◌-◌, ◌≤◌}
+use Rattle.rules.specs.Count.{pick}
+use Rattle.count.specs.State.{list_of}
 use Rattle.count.proofs.Count.pick.Given as goal
 
-abbrev pub invariant-loop-i : goal.invariant-loop-i
-invariant-loop-i l = (l.i ≤ l.n) × (l.best ≤ l.i) × (l.best ≡ pick_of l.least (standing_of l.n l.self) (counts_on l.n l.sheet) l.i)
-
-abbrev pub decreases-loop-i : goal.decreases-loop-i
-decreases-loop-i l = l.n - l.i
+abbrev pub invariant-loop-c : goal.invariant-loop-c
+invariant-loop-c g l =
+    (l.best ≤ l.c - 1)
+    × ((test : (best c : ℕ) → Bool) → ((best c : ℕ) (b : Bool) → 1 ≤ best → best ≤ l.n → 1 ≤ c → c ≤ l.n → goal.F-post g l.better best c b → b ≡ test best c) → l.best ≡ pick (list_of l.self.gone) test (l.c - 1))

@@ -1,10 +1,10 @@
 use Rattle.gooseoften.proofs.answers.found_code.Goals as goal
 
 pub code-requires : goal.code-requires
-code-requires c = rw c.in-Refused.is at c.requires
+code-requires c = rw c.in-Err.is at c.requires
 
-pub returns-in-Listed : goal.returns-in-Listed
-returns-in-Listed c numbers = rw c.in-Listed.is
+pub returns-in-Ok : goal.returns-in-Ok
+returns-in-Ok c numbers = rw c.in-Ok.is
 
-pub returns-in-Refused : goal.returns-in-Refused
-returns-in-Refused c numbers = rw c.in-Refused.is c.code.ensures
+pub returns-in-Err : goal.returns-in-Err
+returns-in-Err c numbers = rw c.in-Err.is c.code.ensures

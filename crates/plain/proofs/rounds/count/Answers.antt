@@ -20,7 +20,7 @@ loop-count-init c =
     let w = c.new-count.ensures in
     let z : f.n - 0 ≡ f.n = omega arith in
     let many = length_where f.k (λ b. is_counted (get_or f.kinds.now b 0)) (λ b. part f.rankings.now (b * f.n) f.n) in
-    (w.1, omega (arith, w.0, c.requires), rw (w.2 f.n, w.0, z), many ∙ sym (c.low16-counted.ensures ∙ c.counted.ensures.0))
+    (w.1, omega (arith, w.0, c.requires), rw (w.2 f.n, w.0, z), many ∙ sym c.counted-counted.ensures.0)
 
 pub returns-then-closes : goal.returns-then-closes
 returns-then-closes c =
@@ -34,7 +34,7 @@ pub loop-count-preserved : goal.loop-count-preserved
 loop-count-preserved c =
     let l = c.loop-count in
     let f = c.args in
-    let h = c.next-next.ensures in
+    let h = c.next-count.ensures in
     let no = sym c.closes.ensures ∙ c.if-closes.false in
     let last = not_last f.n _ (standing_of f.n l.count) _ _ (sheets_many f.n l.count l.invariant.0) no in (
       h.1,
@@ -43,24 +43,3 @@ loop-count-preserved c =
           ∙ rw (h.2 f.n, c.leaves.ensures.0, h.0),
       l.invariant.3,
     )
-
-pub low16-counted-requires : goal.low16-counted-requires
-low16-counted-requires c = omega (arith, c.counted.ensures.1, c.requires)
-
-pub tally-sheet-requires : goal.tally-sheet-requires
-tally-sheet-requires c = (omega (arith, c.requires), omega (arith, c.requires), omega (arith, c.requires), omega (arith, c.requires), c.loop-count.invariant.0.listed)
-
-pub closes-requires : goal.closes-requires
-closes-requires c = (c.loop-count.invariant.0, omega (arith, c.requires), omega (arith, c.requires))
-
-pub close-requires : goal.close-requires
-close-requires c = let l = c.loop-count in (l.invariant.0, omega (arith, l.invariant.1, c.requires), omega (arith, c.requires))
-
-pub leaves-requires : goal.leaves-requires
-leaves-requires c = (c.loop-count.invariant.0, omega (arith, c.requires))
-
-pub next-next-requires : goal.next-next-requires
-next-next-requires c = let l = c.loop-count in (l.invariant.0, omega (arith, l.invariant.1, c.requires), omega (arith, c.leaves.ensures.1, c.requires))
-
-pub loop-count-smaller : goal.loop-count-smaller
-loop-count-smaller c = omega (arith, c.next-next.ensures.0, c.loop-count.invariant.1)

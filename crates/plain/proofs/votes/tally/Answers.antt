@@ -1,6 +1,5 @@
-use native.Mathlib.Nat.{mul-le-mul_right}
+use Prim.Native.Nat.{ℕ, suc, ◌*◌}
 use lib.Dec.{eqb}
-use Prim.Native.Nat.{ℕ, suc, ◌+◌, ◌*◌, ◌≤◌, ◌<◌}
 use mathlib.Core.Path.{◌≡◌, refl, sym, ◌∙◌}
 use mathlib.Core.Bool.{Bool}
 use native.Mathlib.Omega.{arith}
@@ -10,13 +9,13 @@ use mathlib.Core.List.{List}
 use Rattle.rules.specs.Bytes.{part}
 use Rattle.rules.specs.Records.{is_counted}
 use Rattle.count.specs.State.{list_of}
-use Rattle.plain.proofs.Lists.{get_or_zeros as zeros}
+use Rattle.numbers.proofs.Tables.{zero_everywhere as zeros}
 use Rattle.plain.proofs.Firsts.{one, votes_more, votes_passed, votes_none, counts_are}
 use Rattle.plain.proofs.votes.tally.Goals.{else-counted, then-counted}
 use Rattle.plain.proofs.votes.tally.Goals as goal
 
 pub loop-b-init : goal.loop-b-init
-loop-b-init c = (omega arith, refl, λ i h. rw (zeros 8 i) (omega arith), λ i h. zeros 8 i ∙ sym (votes_none _ _ _ _ (suc i)))
+loop-b-init c = (refl, λ i h. rw (zeros 8 i) (omega arith), λ i h. zeros 8 i ∙ sym (votes_none _ _ _ _ (suc i)))
 
 pub loop-b-preserved : goal.loop-b-preserved
 loop-b-preserved c =
@@ -26,18 +25,16 @@ loop-b-preserved c =
     let p : ℕ → Bool = λ d. is_counted (get_or f.kinds.now d 0) in
     let r : ℕ → List ℕ = λ d. part f.rankings.now (d * f.n) f.n in
     (elim c.if-counted.branch [
-      | then-counted w ↦ let e = eq-eqb (get_or f.kinds.now l.b 0) 0 (sym c.wide-counted.ensures ∙ w.if-counted.true) in
-          let v = w.voted-next.ensures in (
-            omega arith,
+      | then-counted w ↦ let e = eq-eqb (get_or f.kinds.now l.b 0) 0 (sym c.from-counted.ensures ∙ w.if-counted.true) in
+          let v = w.vote.ensures in (
             rw w.counts-is v.0,
-            λ i h. rw (w.counts-is, v.1 i h) (omega (arith, l.invariant.2 i h, one (eqb w.first_in.result (suc i)))),
-            λ i h. rw w.counts-is (v.1 i h ∙ rw (l.invariant.3 i h, w.first_in.ensures) (sym (votes_more f.n gone p r l.b (suc i) e))),
+            λ i h. rw (w.counts-is, v.1 i h) (omega (arith, l.invariant.1 i h, one (eqb w.first_in.result (suc i)))),
+            λ i h. rw w.counts-is (v.1 i h ∙ rw (l.invariant.2 i h, w.first_in.ensures) (sym (votes_more f.n gone p r l.b (suc i) e))),
           )
-      | else-counted w ↦ let e = ne_eqb (get_or f.kinds.now l.b 0) 0 (λ z. w.if-counted.false (c.wide-counted.ensures ∙ z)) in (
-        omega arith,
-        rw w.counts-is l.invariant.1,
-        λ i h. rw w.counts-is (omega (arith, l.invariant.2 i h)),
-        λ i h. rw w.counts-is (l.invariant.3 i h ∙ sym (votes_passed f.n gone p r l.b (suc i) e)),
+      | else-counted w ↦ let e = ne_eqb (get_or f.kinds.now l.b 0) 0 (λ z. w.if-counted.false (c.from-counted.ensures ∙ z)) in (
+        rw w.counts-is l.invariant.0,
+        λ i h. rw w.counts-is (omega (arith, l.invariant.1 i h)),
+        λ i h. rw w.counts-is (l.invariant.2 i h ∙ sym (votes_passed f.n gone p r l.b (suc i) e)),
       )
     ])
 
@@ -46,16 +43,4 @@ returns c =
     let l = c.loop-b in
     let f = c.args in
     let e : l.b ≡ f.k = omega arith in
-    counts_are l.counts f.n (list_of f.gone) _ l.invariant.1 (omega (arith, c.requires)) (rw (← e) l.invariant.3)
-
-up : (b k n : ℕ) → b < k → (b + 1) * n ≤ k * n
-up b k n h = mul-le-mul_right n (omega arith)
-
-pub overflow_mul-at : goal.overflow_mul-at
-overflow_mul-at c = omega (arith, up c.loop-b.b c.args.k c.args.n (omega arith), c)
-
-pub first_in-requires : goal.first_in-requires
-first_in-requires c = (omega (arith, up c.loop-b.b c.args.k c.args.n (omega arith), c.requires), c.requires.4)
-
-pub voted-next-requires : goal.voted-next-requires
-voted-next-requires c = λ i h. omega (arith, c.loop-b.invariant.2 i h, c.requires)
+    counts_are l.counts f.n (list_of f.gone) _ l.invariant.0 (omega (arith, c.requires)) (rw (← e) l.invariant.2)

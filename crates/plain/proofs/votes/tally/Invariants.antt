@@ -1,4 +1,4 @@
-use Prim.Native.Nat.{ℕ, suc, ◌-◌, ◌*◌, ◌≤◌, ◌<◌}
+use Prim.Native.Nat.{ℕ, suc, ◌*◌, ◌≤◌, ◌<◌}
 use mathlib.Core.Path.{◌≡◌}
 use lib.ListN.{length, get_or}
 use Rattle.rules.specs.Bytes.{part}
@@ -9,8 +9,5 @@ use Rattle.plain.proofs.votes.tally.Given as goal
 
 abbrev pub invariant-loop-b : goal.invariant-loop-b
 invariant-loop-b l =
-    (l.b ≤ l.k) × (length l.counts ≡ 8) × ((i : ℕ) → i < 8 → get_or l.counts i 0 ≤ l.b)
+    (length l.counts ≡ 8) × ((i : ℕ) → i < 8 → get_or l.counts i 0 ≤ l.b)
     × ((i : ℕ) → i < 8 → get_or l.counts i 0 ≡ votes_for l.n (list_of l.gone) (table_where l.b (λ d. is_counted (get_or l.kinds d 0)) (λ d. part l.rankings (d * l.n) l.n)) (suc i))
-
-abbrev pub decreases-loop-b : goal.decreases-loop-b
-decreases-loop-b l = l.k - l.b

@@ -1,4 +1,4 @@
 use Rattle.proving.proofs.branch.after_challenge.Goals as goal
 
-pub returns : goal.returns
-returns c = rw c.if-known.false
+pub returns-else-known : goal.returns-else-known
+returns-else-known c = rw c.if-known.false

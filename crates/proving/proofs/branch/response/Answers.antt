@@ -3,4 +3,4 @@ use native.Mathlib.Nat.{add-mod-mod}
 use Rattle.proving.proofs.branch.response.Goals as goal
 
 pub returns : goal.returns
-returns c = c.add.ensures ∙ rw (c.mul_exp.ensures, add-mod-mod)
+returns c = c.add.ensures ∙ rw (c.mul.ensures, add-mod-mod)

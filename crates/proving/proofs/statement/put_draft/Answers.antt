@@ -9,8 +9,8 @@ returns-then-known c =
     rw c.if-known.true
     (stated_true _ _ _ _ _ (parameters_of f.g) (statement_of f.s) f.e.0 f.r.0 _ _ c.pow-t1.ensures c.pow-t2.ensures c.put_statement.ensures)
 
-pub returns : goal.returns
-returns c =
+pub returns-else-known : goal.returns-else-known
+returns-else-known c =
     let f = c.args in
     rw c.if-known.false
-    (stated_false _ _ _ _ _ (parameters_of f.g) (statement_of f.s) f.e.0 f.r.0 _ _ c.commitment-t1.ensures c.commitment-t2.ensures c.put_statement-2.ensures)
+    (stated_false _ _ _ _ _ (parameters_of f.g) (statement_of f.s) f.e.0 f.r.0 _ _ c.commitment-t1.ensures c.commitment-t2.ensures c.put_statement-else-known.ensures)

@@ -1,15 +1,14 @@
 use Prim.Native.Nat.{◌+◌, ◌*◌, ◌-◌, ◌≤◌}
 use native.Mathlib.Nat.{mul-le-mul_right}
 use native.Mathlib.Omega.{arith}
-use Rattle.sha256.proofs.Feed.{fed_more}
 use Rattle.rules.specs.Shift.{shift_context}
 use Rattle.statements.specs.Claims.{claim_of, Within}
 use Rattle.statements.proofs.Lines.{row_below}
-use Rattle.records.proofs.shift.shift_proof.Goals.{After-group-1}
+use Rattle.records.proofs.shift.shift_proof.Goals.{Start}
 use Rattle.records.proofs.shift.shift_proof.Goals as goal
 
 -- the table has room for the matrix before
-small : (c : goal.After-group-1) → let a = c.args in ((a.h.n - a.m) * a.h.n + a.h.n ≤ a.h.n * a.h.n) × (a.h.n * a.h.n ≤ 8 * a.h.n) × (a.h.n ≤ 8)
+small : (c : goal.Start) → let a = c.args in ((a.h.n - a.m) * a.h.n + a.h.n ≤ a.h.n * a.h.n) × (a.h.n * a.h.n ≤ 8 * a.h.n) × (a.h.n ≤ 8)
 small c =
     let a = c.args in
     let pre = c.requires.header_known in
@@ -18,7 +17,7 @@ small c =
 pub inverse_table-inverses-requires : goal.inverse_table-inverses-requires
 inverse_table-inverses-requires c =
     let ready = c.requires.header_known.0.ready in
-    (ready.p_pos, ready.q_pos, omega (arith, small c), omega arith)
+    (ready.p_pos, ready.q_pos, omega (arith, small (goal.at.inverse_table-inverses-requires c).Start), omega arith)
 
 pub proof_good-requires : goal.proof_good-requires
 unfolding Within
@@ -33,13 +32,11 @@ proof_good-requires c =
             statement = hi;
             earlier = c.requires.n_in_bounds.0;
             later = omega arith;
-            long_enough = omega (arith, table.long, small (goal.at.proof_good-requires c).After-group-1);
+            long_enough = omega (arith, table.long, small (goal.at.proof_good-requires c).Start);
             inverted = λ u b. table.inverted u (omega arith);
           };
     }
 
 pub returns : goal.returns
 unfolding claim_of
-returns c =
-    c.proof_good.ensures (shift_context _ _)
-    (rw (← c.number2-number.ensures, ← c.low.ensures) (fed_more _ _ c.labelled-label.ensures _ _ c.feed_context-prefix.ensures))
+returns c = c.proof_good.ensures (shift_context _ _) c.prefix-prefix.ensures

@@ -1,41 +1,38 @@
-use native.Mathlib.Omega.{arith}
+use mathlib.Core.Bool.{cond}
+use mathlib.Core.List.{◌++◌, [], ◌∷◌}
 use Rattle.rules.specs.Sentences.{bytes}
-use Rattle.rules.proofs.Lines.{verb_long, ending_long}
-use Rattle.sentences.proofs.Puts.{◌then◌}
 use Rattle.sentences.proofs.parts.put_ending.Goals as goal
 
-pub put-who-requires : goal.put-who-requires
-put-who-requires c = omega (arith, ending_long c.args.last c.args.name.now, c.requires)
-
-pub put-verb-requires : goal.put-verb-requires
-put-verb-requires c =
-    let p = c.put-who in
-    omega (arith, ending_long c.args.last c.args.name.now, c.requires, p.ensures.ends, p.ensures.long)
-
-pub put_verb-feed-requires : goal.put_verb-feed-requires
-put_verb-feed-requires c =
-    let p = c.put-who in
-    let q = c.put-verb in
-    omega (arith, ending_long c.args.last c.args.name.now, verb_long c.args.last, c.requires, p.ensures.ends, p.ensures.long, q.ensures.ends, q.ensures.long)
-
 pub put-requires : goal.put-requires
-put-requires c =
-    let p = c.put-who in
-    let q = c.put-verb in
-    let v = c.put_verb-feed in
-    omega (
-      arith,
-      ending_long c.args.last c.args.name.now,
-      verb_long c.args.last,
-      c.requires,
-      p.ensures.ends,
-      p.ensures.long,
-      q.ensures.ends,
-      q.ensures.long,
-      v.ensures.ends,
-      v.ensures.long,
-    )
+unfolding bytes
+put-requires g c =
+    let laws = g.met.S.Sink.laws in
+    let a = c.args in
+    laws.front _ _ a.name.now (laws.front _ _ (cond a.last (bytes " wins.") (bytes " leaves.")) (laws.front _ _ (10 ∷ []) c.requires))
+
+pub put-requires-2 : goal.put-requires-2
+unfolding bytes
+put-requires-2 g c =
+    let laws = g.met.S.Sink.laws in
+    let a = c.args in
+    laws.rest _ _ (bytes "; ") a.name.now (laws.front _ _ (cond a.last (bytes " wins.") (bytes " leaves.")) (laws.front _ _ (10 ∷ []) c.requires)) c.put.ensures
+
+pub put-requires-3 : goal.put-requires-3
+unfolding bytes
+put-requires-3 g c =
+    let laws = g.met.S.Sink.laws in
+    let a = c.args in
+    rw (← c.verb.ensures) at
+    (laws.rest _ _ (bytes "; " ++ a.name.now) (cond a.last (bytes " wins.") (bytes " leaves.")) (laws.front _ _ (10 ∷ []) c.requires) (laws.both _ _ _ _ _ c.put.ensures c.put-2.ensures))
+
+pub put-requires-4 : goal.put-requires-4
+unfolding bytes
+put-requires-4 g c =
+    let laws = g.met.S.Sink.laws in
+    laws.rest _ _ (bytes "; " ++ c.args.name.now ++ c.verb.result.now) (10 ∷ []) (rw c.verb.ensures c.requires) (laws.both _ _ _ _ _ (laws.both _ _ _ _ _ c.put.ensures c.put-2.ensures) c.put-3.ensures)
 
 pub returns : goal.returns
 unfolding bytes
-returns c = c.put-who.ensures then c.put-verb.ensures then c.put_verb-feed.ensures then c.put.ensures
+returns g c =
+    let laws = g.met.S.Sink.laws in
+    rw (← c.verb.ensures) (laws.both _ _ _ _ _ (laws.both _ _ _ _ _ (laws.both _ _ _ _ _ c.put.ensures c.put-2.ensures) c.put-3.ensures) c.put-4.ensures)

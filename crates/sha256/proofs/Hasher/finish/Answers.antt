@@ -10,7 +10,7 @@ unfolding digest_of stream_of
 returns c =
     let self = c.args.self in
     c.digits.ensures
-    ∙ ap (λ (s : Stream). bytes s.value) (c.update-h.ensures ∙ ap (feed (stream_of self)) (c.ending-tail.ensures ∙ padding_is self.total))
+    ∙ ap (λ (s : Stream). bytes s.value) (c.update.ensures ∙ ap (feed (stream_of self)) (c.ending-tail.ensures ∙ padding_is self.total))
 
 pub slice_bounds-update-end : goal.slice_bounds-update-end
 slice_bounds-update-end c = sym (length-take-le _ c.ending-tail.result (omega (arith, c.ending-tail.type_inv)))

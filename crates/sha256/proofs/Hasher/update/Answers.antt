@@ -1,51 +1,42 @@
-use Rattle.std.proofs.Common.{◌≡◌, length, drop, ◌∙◌, arith, length-drop, length-set, length-take-le, rules}
+use Rattle.std.proofs.Common.{◌≡◌, ◌≤◌, ◌+◌, ◌-◌, ◌%◌, length, sym, arith, rules, length-take-le}
+use borrow.Rule.Slice.PartMut.{put_mid}
 use Rattle.sha256.specs.Feed.{stream_of}
-use Rattle.sha256.proofs.Stream.{byte_waits, byte_fills, block_hashed, loop_starts, loop_ends}
-use Rattle.sha256.proofs.Hasher.update.Goals.{else-full, then-full}
+use Rattle.sha256.proofs.Stream.{piece_waits, piece_fills, filled_long}
+use Rattle.sha256.proofs.Hasher.update.Goals.{After-hashed-state}
 use Rattle.sha256.proofs.Hasher.update.Goals as goal
 
-pub loop-i-init : goal.loop-i-init
-unfolding stream_of
-loop-i-init c =
+-- the rest fits into the block
+room : (c : goal.After-hashed-state) → let f = c.args.self.total % 64 in
+    length c.as_chunks.result.1.now ≤ length (put_mid f (f + length c.split_at.result.0.now - f) c.args.self.block c.copy_from_slice.new.self)
+room c =
     let self = c.args.self in
     let long : length self.block ≡ 64 = search rules in
-    (search rules, omega arith, long, loop_starts self.state self.block self.total long)
+    let filled = filled_long self.state self.block c.args.piece.now _ _ self.total _ long c.min.ensures c.split_at.ensures.front c.copy_from_slice.ensures.after
+    (self.total % 64 + length c.split_at.result.0.now - self.total % 64) (omega arith) c.if-not-full.false in
+    omega (arith, filled, c.as_chunks.ensures.back_len)
 
-pub loop-i-preserved-then-piece-i-ge64 : goal.loop-i-preserved-then-piece-i-ge64
-loop-i-preserved-then-piece-i-ge64 c =
-    let l = c.loop-i in
-    let a = c.args in
-    let p = a.piece.now in
-    let x = c.part-whole in
-    let long : length x.result ≡ 64 = rw x.ensures (length-take-le 64 (drop l.i p) (omega (arith, length-drop l.i p))) in (
-      omega arith,
-      omega (arith, l.invariant.1),
-      l.invariant.2,
-      block_hashed (stream_of a.self) l.state l.block p l.filled l.i a.self.total l.invariant.2 l.invariant.3 c.compress-next.result x.result
-          (omega arith) long x.ensures c.compress-next.ensures,
-    )
+pub returns-then-not-full : goal.returns-then-not-full
+unfolding stream_of
+returns-then-not-full c =
+    let self = c.args.self in
+    let long : length self.block ≡ 64 = search rules in
+    piece_waits self.state self.block c.args.piece.now _ _ self.total _ long c.min.ensures c.split_at.ensures.front c.copy_from_slice.ensures.after _ c.if-not-full.true
 
-pub loop-i-preserved : goal.loop-i-preserved
-loop-i-preserved c =
-    let l = c.loop-i in
-    let a = c.args in
-    let p = a.piece.now in (
-      omega arith,
-      (elim c.if-full.branch [
-        | then-full w ↦ omega (arith, l.invariant.1)
-        | else-full w ↦ omega (arith, l.invariant.1)
-      ]),
-      simp length-set l.invariant.2,
-      (elim c.if-full.branch [
-        | then-full w ↦ byte_fills (stream_of a.self) l.state l.block p l.filled l.i a.self.total l.invariant.2 l.invariant.3 _ _ (w.state-is ∙ w.compress-next-then-full.ensures) w.filled-is (omega arith) (omega arith)
-        | else-full w ↦ byte_waits (stream_of a.self) l.state l.block p l.filled l.i a.self.total l.invariant.2 l.invariant.3 _ _ w.state-is w.filled-is (omega (arith, l.invariant.1)) (omega arith)
-      ]),
-    )
+pub slice_bounds-block-end-2 : goal.slice_bounds-block-end-2
+slice_bounds-block-end-2 c = room (goal.at.slice_bounds-block-end-2 c).After-hashed-state
+
+pub slice_bounds-copy_from_slice-end : goal.slice_bounds-copy_from_slice-end
+slice_bounds-copy_from_slice-end c = sym (length-take-le _ _ (room (goal.at.slice_bounds-copy_from_slice-end c).After-hashed-state))
+
+pub copy_from_slice-requires-2 : goal.copy_from_slice-requires-2
+copy_from_slice-requires-2 c = length-take-le _ _ (room (goal.at.copy_from_slice-requires-2 c).After-hashed-state)
 
 pub returns : goal.returns
 unfolding stream_of
 returns c =
-    let l = c.loop-i in
-    let a = c.args in
-    loop_ends (stream_of a.self) l.state l.block a.piece.now l.filled l.i a.self.total c.wrapping_add_u64-total.result
-    l.invariant.3 l.invariant.1 (omega arith) c.wrapping_add_u64-total.ensures.value
+    let self = c.args.self in
+    let long : length self.block ≡ 64 = search rules in
+    piece_fills self.state self.block c.args.piece.now _ _ self.total _ long c.min.ensures c.split_at.ensures.front c.copy_from_slice.ensures.after
+    (self.total % 64 + length c.split_at.result.0.now - self.total % 64) (omega arith) c.if-not-full.false
+    c.split_at.result.1.now _ _ _ _ _ c.split_at.ensures.back c.as_chunks.ensures.front c.as_chunks.ensures.back
+    c.compress.ensures c.hashed-state.ensures c.copy_from_slice-2.ensures.after

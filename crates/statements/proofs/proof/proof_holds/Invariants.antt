@@ -1,4 +1,4 @@
-use Prim.Native.Nat.{ℕ, ◌-◌, ◌%◌, ◌≤◌}
+use Prim.Native.Nat.{ℕ, ◌%◌}
 use mathlib.Core.Path.{◌≡◌}
 use mathlib.Core.Bool.{true}
 use mathlib.Core.List.{List, ◌++◌}
@@ -11,19 +11,15 @@ use Rattle.statements.proofs.proof.proof_holds.Given as goal
 
 abbrev pub invariant-loop-i : goal.invariant-loop-i
 invariant-loop-i l =
-    (l.i ≤ l.statements) × (l.ok ≡ true)
-    × (all_below l.i (here l.board l.g.group.p l.bases.first.0 l.bases.second.0 (claim_of l.board (parameters_of l.g.group) l.claim) l.at l.statements l.l) ≡ true)
-    × ((m : List ℕ) → Fed l.initial.h m → Fed l.h (m ++ concat_below l.i (piece l.board (claim_of l.board (parameters_of l.g.group) l.claim) l.at l.statements l.l)))
+    let claim = claim_of l.board (parameters_of l.g.group) l.claim in record {
+      all : all_below l.i (here l.board l.g.group.p l.bases.first.0 l.bases.second.0 claim l.shape.at l.shape.statements l.l) ≡ true;
+      fed : (m : List ℕ) → Fed l.initial.h m → Fed l.h (m ++ concat_below l.i (piece l.board claim l.shape.at l.shape.statements l.l));
+    }
 
-abbrev pub decreases-loop-i : goal.decreases-loop-i
-decreases-loop-i l = l.statements - l.i
-
-abbrev pub invariant-branches : goal.invariant-branches
-invariant-branches l =
-    (l.l ≤ l.branches) × (l.ok ≡ true)
-    × (all_below l.l (branch_here l.board l.g.group.p l.bases.first.0 l.bases.second.0 (claim_of l.board (parameters_of l.g.group) l.claim) l.at l.statements) ≡ true)
-    × (l.sum.0 ≡ sum_below l.l (challenges l.board l.at l.statements) % l.g.group.q)
-    × ((m : List ℕ) → Fed l.initial.h m → Fed l.h (m ++ concat_below l.l (pieces l.board (claim_of l.board (parameters_of l.g.group) l.claim) l.at l.statements)))
-
-abbrev pub decreases-branches : goal.decreases-branches
-decreases-branches l = l.branches - l.l
+abbrev pub invariant-loop-l : goal.invariant-loop-l
+invariant-loop-l l =
+    let claim = claim_of l.board (parameters_of l.g.group) l.claim in record {
+      all : all_below l.l (branch_here l.board l.g.group.p l.bases.first.0 l.bases.second.0 claim l.shape.at l.shape.statements) ≡ true;
+      sum : l.sum.0 ≡ sum_below l.l (challenges l.board l.shape.at l.shape.statements) % l.g.group.q;
+      fed : (m : List ℕ) → Fed l.initial.h m → Fed l.h (m ++ concat_below l.l (pieces l.board claim l.shape.at l.shape.statements));
+    }

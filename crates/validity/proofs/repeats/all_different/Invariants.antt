@@ -1,4 +1,3 @@
-use Prim.Native.Nat.{◌-◌, ◌≤◌}
 use mathlib.Core.Path.{◌≡◌}
 use mathlib.Core.Bool.{true}
 use Rattle.jobs.specs.Write.{different}
@@ -12,7 +11,4 @@ abbrev pub decreases-loop-h : goal.decreases-loop-h
 decreases-loop-h l = l.h
 
 abbrev pub invariant-loop-j : goal.invariant-loop-j
-invariant-loop-j l = (l.j ≤ l.size) × (different l.draws l.from l.j ≡ true) × Chained l.draws l.from l.last l.prior l.j
-
-abbrev pub decreases-loop-j : goal.decreases-loop-j
-decreases-loop-j l = l.size - l.j
+invariant-loop-j l = (different l.draws l.from l.j ≡ true) × Chained l.draws l.from l.last l.prior l.j

@@ -1,4 +1,4 @@
-use Prim.Native.Nat.{ℕ, ◌-◌, ◌≤◌}
+use Prim.Native.Nat.{ℕ}
 use mathlib.Core.Path.{◌≡◌}
 use mathlib.Core.Bool.{true}
 use mathlib.Core.List.{List}
@@ -12,13 +12,7 @@ abbrev pub kind_at : (kinds : List ℕ) (i : ℕ) → ℕ
 kind_at kinds i = get_or kinds i 0
 
 abbrev pub invariant-loop-b : goal.invariant-loop-b
-invariant-loop-b l = (l.b ≤ l.k) × (l.at ≡ draws_at l.n (kind_at l.kinds) l.k l.m l.b) × (all_below l.b (record_good l.draws l.n (kind_at l.kinds) l.k l.m) ≡ true)
-
-abbrev pub decreases-loop-b : goal.decreases-loop-b
-decreases-loop-b l = l.k - l.b
+invariant-loop-b l = (l.at ≡ draws_at l.n (kind_at l.kinds) l.k l.m l.b) × (all_below l.b (record_good l.draws l.n (kind_at l.kinds) l.k l.m) ≡ true)
 
 abbrev pub invariant-loop-m : goal.invariant-loop-m
-invariant-loop-m l = (l.m ≤ l.rounds) × (l.at ≡ round_draws l.n (kind_at l.kinds) l.k l.m) × (all_below l.m (round_good l.draws l.n (kind_at l.kinds) l.k) ≡ true)
-
-abbrev pub decreases-loop-m : goal.decreases-loop-m
-decreases-loop-m l = l.rounds - l.m
+invariant-loop-m l = (l.at ≡ round_draws l.n (kind_at l.kinds) l.k l.m) × (all_below l.m (round_good l.draws l.n (kind_at l.kinds) l.k) ≡ true)

@@ -1,4 +1,0 @@
-use Rattle.compression.proofs.next_word.Goals as goal
-
-pub returns : goal.returns
-returns c = cc
