@@ -9,7 +9,8 @@ number, order and type with
   - include/gooseoften.h,
   - the extern block of hosts/boardhost.rs, for the functions that it declares,
 
-the symbols with those that libgooseoften.a defines, the refusals' names and numbers in
+the symbols with those that libgooseoften.a defines, what the archive needs from outside with what
+README says that it needs, the refusals' names and numbers in
 crates/rules/src/lib.rt with those of the header and of bench/plain/plain.h, and the length that is
 enough for every text in the header and in the Rust host with the one that is proved.  Ends with 1
 where anything differs.
@@ -110,10 +111,25 @@ def in_rust():
     return found
 
 
+def listed(which):
+    """The lines of nm on the archive."""
+    return subprocess.run(['nm', '--extern-only', which, ARCHIVE], check=True,
+                          capture_output=True, text=True).stdout.splitlines()
+
+
 def symbols():
-    listed = subprocess.run(['nm', '--extern-only', '--defined-only', ARCHIVE], check=True,
-                            capture_output=True, text=True).stdout
-    return sorted(line.split()[2] for line in listed.splitlines() if ' T ' in line)
+    return sorted(line.split()[2] for line in listed('--defined-only') if ' T ' in line)
+
+
+def needed():
+    """The names that the archive takes from outside."""
+    return sorted({line.split()[-1] for line in listed('--undefined-only') if ' U ' in line})
+
+
+def said_needed():
+    """Those that README says it takes."""
+    sentence = re.search(r'need only (`\w+`(?:(?:, | and )`\w+`)*) of the host', source('README.md'))
+    return sorted(re.findall(r'`(\w+)`', sentence.group(1)))
 
 
 # ------------------------------------------------------------------ refusals
@@ -156,6 +172,7 @@ def main():
     comparison.compare('functions in the Rust host', sorted(rust.items()),
                        sorted((name, declared.get(name)) for name in rust))
     comparison.compare('symbols of the archive', symbols(), sorted(declared))
+    comparison.compare('what the archive needs of the host', needed(), said_needed())
     numbers, header, plain = refusals()
     comparison.compare('refusals in the header', header, numbers)
     comparison.compare('refusals in bench/plain', plain,

@@ -1,8 +1,9 @@
 // The checker of a board: the rounds in order, the verdict and the count.
 #![tactic(auto)]
 
-ghost use Rattle.std.specs.Prelude.{◌≡◌, IfOk};
+ghost use Rattle.std.specs.Prelude.{◌≡◌, ◌+◌, ◌<◌, IfOk, Ok};
 ghost use Rattle.sha256.specs.Message.{sha256};
+ghost use Rattle.rules.specs.Records.{header_length};
 ghost use Rattle.rules.specs.Count.{start};
 ghost use Rattle.rules.specs.Header.{ranked, header};
 ghost use Rattle.rules.specs.Check.{check_from, check_model, check_board, check_small};
@@ -39,24 +40,44 @@ fn refused(why: Refused, count: Count) -> Counted
     }
 }
 
-// The ballots' records of a round that starts at the next place, each read where the one before it ends.
+// The ballots' records of a round that starts at the next place, each read by the reading that was moved past the one before it.
 fn read_records(reading: Reading<'_>, h: Head, round: Round) -> Result<RecordsRead, Refused>
     requires { HeaderKnown ranked reading.board.now h × Begins reading.board.now h reading.next round }
     ensures { RecordsReads reading.entry.board.now h round.a round.m result }
 {
-    let mut place = reading.next;
+    let mut here = reading;
     let mut walk = round::ahead(h, round);
     // No `for`: the walk has the number of the ballot that is next, which a `for` would count a second time.
     while walk.k < h.k {
-        let next = round::read_record(reading.board, place, h, round, walk)?;
-        walk = round::past_record(reading.board, place, h, round, walk, next);
-        place = next;
+        let next = round::read_record(here.board, here.next, h, round, walk)?;
+        walk = round::past_record(here.board, here.next, h, round, walk, next);
+        here = reading::moved(here, next);
     }
     Ok(RecordsRead {
-        next: place,
+        next: here.next,
         number: walk.number,
         tally: walk.tally,
     })
+}
+
+// The sheet at the next place, after the records of its round.
+fn read_sheet(
+    reading: Reading<'_>,
+    h: Head,
+    count: Count,
+    round: Round,
+    read: RecordsRead,
+) -> Result<RoundRead, Refused>
+    requires header_known { HeaderKnown ranked reading.board.now h × Kept count × (count.gone.outs ≡ round.m) × (round.m + 1 < h.n) }
+    requires records_read { RecordsReads reading.board.now h round.a round.m (Ok read) × (reading.next ≡ read.next) }
+    ensures { Rounded reading.entry.board.now h count round.m round.a result }
+{
+    let read = RecordsRead {
+        next: reading.next,
+        number: read.number,
+        tally: read.tally,
+    };
+    round::end_round(reading.board, h, count, round, Ok(read))
 }
 
 // One round, from the next place, where it starts, to the place after its sheet.
@@ -69,21 +90,20 @@ fn read_round(
     requires { HeaderKnown ranked reading.board.now h × Begins reading.board.now h reading.next round × Kept count × (count.gone.outs ≡ round.m) }
     ensures { Rounded reading.entry.board.now h count round.m round.a result }
 {
-    let read = read_records(reading, h, round);
-    round::end_round(reading.board, h, count, round, read)
+    let read = read_records(reading, h, round)?;
+    read_sheet(reading::moved(reading, read.next), h, count, round, read)
 }
 
-// The rounds behind the header, one after another. Each sheet takes the standing count and hands back the next.
-fn rounds(board: &[u8], h: Head) -> Counted
-    requires { HeaderKnown ranked board.now h }
-    ensures { Verified board.now (head_of board.now h) (check_from sha256 board.now (head_of board.now h) h.n start 0 0) (stops_from sha256 board.now (head_of board.now h) h.n start 0 0) result }
+// The rounds behind the header, which start at the next place, one after another. Each sheet takes the standing count and hands back the next.
+fn rounds(reading: Reading<'_>, h: Head) -> Counted
+    requires { HeaderKnown ranked reading.board.now h × (reading.next ≡ header_length) }
+    ensures { Verified reading.entry.board.now (head_of reading.entry.board.now h) (check_from sha256 reading.entry.board.now (head_of reading.entry.board.now h) h.n start 0 0) (stops_from sha256 reading.entry.board.now (head_of reading.entry.board.now h) h.n start 0 0) result }
 {
     let mut count = Count::new();
-    let mut place = layout::HEADER_LENGTH;
+    let mut here = reading;
     let mut round = Round::first();
     loop {
-        let reading = Reading { board, next: place };
-        let read = match read_round(reading, h, count, round) {
+        let read = match read_round(here, h, count, round) {
             Ok(read) => read,
             Err(why) => return refused(why, count),
         };
@@ -102,20 +122,21 @@ fn rounds(board: &[u8], h: Head) -> Counted
                 };
             }
             RoundOutcome::Open { out, next, number } => {
-                round = round.next(number, out, place);
-                place = next;
+                round = round.next(number, out, here.next);
+                here = reading::moved(here, next);
             }
         }
     }
 }
 
-// The verdict on a board of a model, and its count.
+// The verdict on a board of a model, and its count. Its header is read at the first place, the rounds from the place after it on.
 fn check_model(board: &[u8], model: Model) -> Counted
     requires { Narrower model }
     ensures { Verified board.now (header board.now) (check_model sha256 board.now model) (stops_at sha256 board.now model) result }
 {
-    match header::read_header(board, model) {
-        Ok(h) => rounds(board, h),
+    let reading = reading::start(board, 0);
+    match reading::header_of(reading, model) {
+        Ok(h) => rounds(reading::moved(reading, layout::HEADER_LENGTH), h),
         Err(refusal) => refused(Refused { refusal, record: 0 }, Count::new()),
     }
 }

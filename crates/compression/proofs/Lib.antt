@@ -1,2 +1,2 @@
--- Laws of the schedule.
+-- Laws of the schedule and the rounds.
 pub mod Laws

@@ -3,7 +3,7 @@
 
 ghost use Rattle.std.specs.Prelude.{◌≡◌, ◌<◌};
 ghost use Rattle.compression.specs.Words.{◌⊞◌, σ₀, σ₁};
-ghost use Rattle.compression.specs.Block.{word, schedule, round, compress};
+ghost use Rattle.compression.specs.Block.{word, schedule, T₁, T₂, compress};
 
 mod words;
 
@@ -50,39 +50,48 @@ fn expand(b: &[u8; 64], w: &mut [u32; 64])
     }
 }
 
-// A round on the eight working variables.
-#[inline(always)]
-fn round(k: u32, w: u32, s: [u32; 8]) -> [u32; 8]
-    ensures { result ≡ round k w s }
+fn temp1(e: u32, f: u32, g: u32, h: u32, k: u32, w: u32) -> u32
+    ensures { result ≡ T₁ e f g h k w }
 {
-    let [a, b, c, d, e, f, g, h] = s;
-    let t1 = h
-        .wrapping_add(words::upper1(e))
+    h.wrapping_add(words::upper1(e))
         .wrapping_add(words::ch(e, f, g))
         .wrapping_add(k)
-        .wrapping_add(w);
-    let t2 = words::upper0(a).wrapping_add(words::maj(a, b, c));
-    [t1.wrapping_add(t2), a, b, c, d.wrapping_add(t1), e, f, g]
+        .wrapping_add(w)
 }
 
+fn temp2(a: u32, b: u32, c: u32) -> u32
+    ensures { result ≡ T₂ a b c }
+{
+    words::upper0(a).wrapping_add(words::maj(a, b, c))
+}
+
+// The working variables are eight, and no array: with a round on an array of eight the loop is slower.
 pub fn compress(state: [u32; 8], block: &[u8; 64]) -> [u32; 8]
     ensures { result ≡ compress state block.now }
 {
     let mut ws = [0u32; 64];
     expand(block, &mut ws);
-    let mut v = state;
-    for (k, w) in ROUND.iter().zip(&ws) {
-        v = round(*k, *w, v);
+    let [mut a, mut b, mut c, mut d, mut e, mut f, mut g, mut h] = state;
+    for t in 0..64 {
+        let t1 = temp1(e, f, g, h, ROUND[t], ws[t]);
+        let t2 = temp2(a, b, c);
+        h = g;
+        g = f;
+        f = e;
+        e = d.wrapping_add(t1);
+        d = c;
+        c = b;
+        b = a;
+        a = t1.wrapping_add(t2);
     }
-    // written out: with `array::from_fn` the proof does not close
     [
-        state[0].wrapping_add(v[0]),
-        state[1].wrapping_add(v[1]),
-        state[2].wrapping_add(v[2]),
-        state[3].wrapping_add(v[3]),
-        state[4].wrapping_add(v[4]),
-        state[5].wrapping_add(v[5]),
-        state[6].wrapping_add(v[6]),
-        state[7].wrapping_add(v[7]),
+        state[0].wrapping_add(a),
+        state[1].wrapping_add(b),
+        state[2].wrapping_add(c),
+        state[3].wrapping_add(d),
+        state[4].wrapping_add(e),
+        state[5].wrapping_add(f),
+        state[6].wrapping_add(g),
+        state[7].wrapping_add(h),
     ]
 }

@@ -5,12 +5,14 @@ ghost use Rattle.std.specs.Prelude.{◌≡◌, ◌≤◌, [], ◌∷◌, length}
 ghost use Rattle.rules.specs.Bytes.{bytes2, bytes4};
 ghost use Rattle.output.specs.Written.{written};
 
-#[tactic(auto, unfolding(crate::specs::Written::written))]
+// No `copy_from_slice`: where the output is a field of a struct, it asks the host for `memmove`, which README does not name.
 pub fn put_bytes(out: &mut [u8], s: &[u8])
     requires { length s.now ≤ length out.old }
     ensures { out.new ≡ written s.now out.old }
 {
-    out[..s.len()].copy_from_slice(s);
+    for i in 0..s.len() {
+        out[i] = s[i];
+    }
 }
 
 pub fn put_byte(out: &mut [u8], x: u8)

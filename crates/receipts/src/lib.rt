@@ -46,7 +46,7 @@ fn walk_ballots(
 {
     let mut at = layout::HEADER_LENGTH;
     for number in 1..=h.k {
-        let reading = Reading { board, next: at };
+        let reading = reading::start(board, at);
         let read = next_record(reading, h.n, number).map_err(|refusal| Refused {
             refusal,
             record: number,
@@ -80,7 +80,8 @@ fn find_on_board(board: &[u8], digests: &Digests<'_>, found: &mut [u16]) -> Resu
     ensures found_after { finding_of result (take (digest_count digests.now.lent.now) found.new) ≡ find_on_board sha256 board.now digests.now.lent.now }
     ensures found_after_2 { found.new ≡ list_after (find_on_board sha256 board.now digests.now.lent.now) found.old }
 {
-    let h = header::read_header(board, layout::ranked()).map_err(|refusal| Refused {
+    let reading = reading::start(board, 0);
+    let h = reading::header_of(reading, layout::ranked()).map_err(|refusal| Refused {
         refusal,
         record: 0,
     })?;

@@ -15,7 +15,10 @@ use Rattle.rules.specs.declared.Refusal.TheVariants as R
 use Rattle.count.specs.declared.Count.{Count}
 use Rattle.count.specs.declared.Ended.{Ended}
 use Rattle.count.specs.State.{standing_of, result_of, went_out, Kept}
-use Rattle.std.specs.Prelude.{Ok, Err}
+use Rattle.std.specs.Prelude.{Ok, Err, IfOk}
+use Rattle.std.specs.Prelude as P
+use Rattle.rules.specs.declared.Refusal.{Refusal}
+use Rattle.sheets.specs.declared.Step.{Step}
 use Rattle.sheets.specs.declared.Outcome.TheVariants.{Closed, Open}
 use Rattle.sheets.specs.Sheets.{Comes, Stepped, out_fault, exponent_of}
 
@@ -53,3 +56,9 @@ module _ (n k : ℕ) (c : Count) (cs : List ℕ) (out place : ℕ) where
       Stepped n k c cs (out_fault n k c cs out) place (Ok (record { outcome = Open a; count = after; next = place }))
   unfolding Stepped Comes first_fault
   opened e a l small x after outs kept st = (rw (e, eq-eqb out _ (x ∙ l)), refl, (e, l, small, outs, kept, rw (← l) st))
+
+-- the place after a sheet that passes its tests
+pub place_after : (n k : ℕ) (c : Count) (cs : List ℕ) (fault place : ℕ) (r : P.Result Step Refusal) → Stepped n k c cs fault place r → IfOk r (λ step. step.next ≡ place)
+unfolding Stepped
+place_after n k c cs fault place (Ok step) w = w.1
+place_after n k c cs fault place (Err e) w = tt

@@ -1,7 +1,7 @@
 // The RT record.
 #![tactic(auto)]
 
-ghost use Rattle.std.specs.Prelude.{◌≡◌, ◌+◌, ◌≤◌, ◌<◌, length, get_or};
+ghost use Rattle.std.specs.Prelude.{◌≡◌, ◌+◌, ◌≤◌, ◌<◌, length, get_or, IfOk};
 ghost use Rattle.numbers.specs.Below.{all_below};
 ghost use Rattle.group.specs.Elements.{parameters_of};
 ghost use Rattle.rules.specs.Records.{sheet_length};
@@ -122,7 +122,8 @@ pub fn read_sheet(
 ) -> Result<Step, Refusal>
     requires header_known { HeaderKnown ranked board.now h × Kept count × (count.gone.outs < h.n) × (at ≤ length board.now) }
     requires few { tally.ballots ≤ 1000 }
-    ensures { (T : said.Tally) → Tallied h.setup.group.p h.n tally T → SheetReads board.now h count tally.ballots T at result }
+    ensures sheet { (T : said.Tally) → Tallied h.setup.group.p h.n tally T → SheetReads board.now h count tally.ballots T at result }
+    ensures next { IfOk result (λ step. step.next ≡ at + sheet_length h.n) }
 {
     frames::sheet_frame(board, at, h.n, count.gone.outs + 1)?;
     let read = sheet_fields(board, h, tally.ballots, at)?;

@@ -39,8 +39,8 @@ pub struct Shape {
     pub statements: usize,
 }
 
-// A proof, whose label and context are fed to the hasher: A and B of a statement are worked out once, for its equations and for the message.
-// The first statement that fails ends the check.
+// A proof, whose label and context are fed to the hasher: A and B of a statement are worked out once, for its equations and for the message. The first
+// failing statement leaves both loops, over branches and statements.
 pub fn proof_holds(
     board: &[u8],
     inverses: &[Element],
@@ -57,7 +57,8 @@ pub fn proof_holds(
 {
     let mut h = prefix;
     let mut sum = Exponent(0);
-    for l in 0..shape.branches {
+    let mut holds = true;
+    'branches: for l in 0..shape.branches {
         let from = shape.at + l * (4 + 12 * shape.statements);
         let e = fields::as_exponent(board, from);
         sum = group::add(g.group.q, sum, e);
@@ -65,10 +66,14 @@ pub fn proof_holds(
             let st = claims::claimed(board, inverses, g, claim, l, i);
             let shown = shown_at(board, from + 4 + 12 * i);
             if !crate::statement_holds(g.group.p, bases.first, bases.second, st, shown, e) {
-                return false;
+                holds = false;
+                break 'branches;
             }
             h = challenges::feed_statement(h, st.left, st.right, shown.t1, shown.t2);
         }
+    }
+    if !holds {
+        return false;
     }
     let digest = h.finish();
     sum.0 == fields::challenge(&digest, g.group.q).0

@@ -2,7 +2,7 @@
 //
 // What is proved of the functions here is that they are safe and end; what they hand to the operating system is tested and not proved. A write that fails is
 // let pass.
-use rules::{Accepted, Refused};
+use rules::Accepted;
 
 // Bytes as they are, as the name of a case.
 pub fn text(rt: &impl Print, bytes: &[u8]) {

@@ -30,7 +30,7 @@ fn board_written(ended: Ended, length: usize) -> Written
     ensures { (outcome_of (Ok result) ≡ board_written length (ended.count.gone.outs + 1) (list_of ended.count.gone) ended.winner) × (result.order ≡ ended.count.gone.order) }
 {
     let gone = ended.count.gone;
-    // (c) a literal takes a field that is an array from a variable alone
+    // a literal takes a field that is an array from a variable alone
     let order = gone.order;
     Written {
         length,

@@ -5,14 +5,19 @@ use Rattle.checker.proofs.check_model.Goals as goal
 
 pub rounds-requires : goal.rounds-requires
 unfolding HeaderReads
-rounds-requires c = known_ranked c.args.model c.args.board.now _ c.requires c.in-Ok.ensures.2
+rounds-requires c =
+    let o = rw (c.start-reading.ensures.0, c.start-reading.ensures.1) at c.in-Ok.ensures in
+    rw (c.moved.ensures.0, c.moved.ensures.1, c.start-reading.ensures.0) (known_ranked c.args.model c.args.board.now _ c.requires o.2, refl)
 
 pub returns-in-Ok : goal.returns-in-Ok
-returns-in-Ok c = counted_is c.args.model c.args.board.now _ _ c.in-Ok.ensures c.rounds.ensures
+returns-in-Ok c =
+    let o = rw (c.start-reading.ensures.0, c.start-reading.ensures.1) at c.in-Ok.ensures in
+    let w = rw (c.moved.ensures.0, c.start-reading.ensures.0) at c.rounds.ensures in
+    counted_is c.args.model c.args.board.now _ _ o w
 
 pub returns-in-Err : goal.returns-in-Err
 returns-in-Err c =
-    let o = c.in-Err.ensures in
+    let o = rw (c.start-reading.ensures.0, c.start-reading.ensures.1) at c.in-Err.ensures in
     let e = refused_is c.args.model c.args.board.now _ o in
     let f = c.new.ensures in
     let w = c.refused.ensures in

@@ -1,5 +1,5 @@
 use Prim.Native.Nat.{suc, ◌-◌}
-use mathlib.Core.Path.{◌≡◌}
+use mathlib.Core.Path.{◌≡◌, refl}
 use native.Mathlib.Omega.{arith}
 use Rattle.std.proofs.Common.{rules}
 use Rattle.round.specs.Walks.{RecordReads}
@@ -8,9 +8,9 @@ use Rattle.checker.proofs.read_records.Goals as goal
 
 pub read_record-requires : goal.read_record-requires
 read_record-requires c =
-    let b = c.requires.1 in (
+    let b = c.requires.1 in rw c.loop-walk.invariant.0 (
       c.requires.0,
-      c.loop-walk.invariant,
+      c.loop-walk.invariant.1,
       c.loop-walk-test.true,
       b.early,
       λ l.
@@ -26,7 +26,7 @@ unfolding RecordReads
 past_record-walk-requires-clause-record_passes c = c.in_ok-next.ensures
 
 pub returns : goal.returns
-returns c = records_read _ _ c.requires.0 _ _ _ c.loop-walk.invariant (omega arith)
+returns c = records_read _ _ c.requires.0 _ _ _ c.loop-walk.invariant.1 (omega arith)
 
 pub loop-walk-init : goal.loop-walk-init
-loop-walk-init c = walked_first _ _ c.requires.0 _ _ c.requires.1 _ c.ahead-walk.ensures
+loop-walk-init c = (refl, walked_first _ _ c.requires.0 _ _ c.requires.1 _ c.ahead-walk.ensures)

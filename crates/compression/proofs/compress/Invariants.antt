@@ -1,6 +1,6 @@
-use Rattle.std.proofs.Common.{◌≡◌, length}
-use Rattle.compression.specs.Block.{rounds, schedule}
+use Rattle.compression.specs.Block.{rounds}
+use Rattle.compression.proofs.Laws.{Eight}
 use Rattle.compression.proofs.compress.Given as goal
 
-abbrev pub invariant-loop-k : goal.invariant-loop-k
-invariant-loop-k l = l.v ≡ rounds (schedule l.block 48) l.state (length l.yielded)
+abbrev pub invariant-loop-t : goal.invariant-loop-t
+invariant-loop-t l = Eight (rounds l.ws l.state l.t) l.a l.b l.c l.d l.e l.f l.g l.h

@@ -45,7 +45,7 @@ read c =
     let f : (let a = c.args in RecordsReads a.board.now a.h a.round.a a.round.m (Ok c.in_ok-read.read)) = rw c.in_ok-read.was at c.requires.records_reads in
     let a = c.args in
     numbered a.board.now a.h a.count a.round.m a.round.a _ c.in_ok-read.read.number _
-    (stepping a.board.now a.h a.count a.round.m a.round.a _ _ _ f.1 f.5 c.requires.header_known.2 (c.read_sheet-sheet.ensures _ f.4))
+    (stepping a.board.now a.h a.count a.round.m a.round.a _ _ _ f.1 f.5 c.requires.header_known.2 (c.read_sheet-sheet.ensures.sheet _ f.4))
     c.map_err.ensures.cases (λ w e g. search rules)
 
 pub returns-in_err-step : goal.returns-in_err-step

@@ -12,13 +12,15 @@ use Rattle.statements.proofs.proof.proof_holds.Given as goal
 abbrev pub invariant-loop-i : goal.invariant-loop-i
 invariant-loop-i l =
     let claim = claim_of l.board (parameters_of l.g.group) l.claim in record {
+      holds : l.holds ≡ true;
       all : all_below l.i (here l.board l.g.group.p l.bases.first.0 l.bases.second.0 claim l.shape.at l.shape.statements l.l) ≡ true;
       fed : (m : List ℕ) → Fed l.initial.h m → Fed l.h (m ++ concat_below l.i (piece l.board claim l.shape.at l.shape.statements l.l));
     }
 
-abbrev pub invariant-loop-l : goal.invariant-loop-l
-invariant-loop-l l =
+abbrev pub invariant-branches : goal.invariant-branches
+invariant-branches l =
     let claim = claim_of l.board (parameters_of l.g.group) l.claim in record {
+      holds : l.holds ≡ true;
       all : all_below l.l (branch_here l.board l.g.group.p l.bases.first.0 l.bases.second.0 claim l.shape.at l.shape.statements) ≡ true;
       sum : l.sum.0 ≡ sum_below l.l (challenges l.board l.shape.at l.shape.statements) % l.g.group.q;
       fed : (m : List ℕ) → Fed l.initial.h m → Fed l.h (m ++ concat_below l.l (pieces l.board claim l.shape.at l.shape.statements));
